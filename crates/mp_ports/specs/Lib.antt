@@ -1,0 +1,9 @@
+pub mod Count
+pub mod Told
+pub mod Folder
+pub mod Report
+pub mod Calls
+pub mod Memory
+pub mod Code
+pub mod Answer
+pub mod Reading
