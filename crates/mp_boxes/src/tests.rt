@@ -1,0 +1,222 @@
+//! Tables of heads, of containers and of headers, each computed by hand from ISO/IEC 14496-12, 4.2.
+
+ghost use Rattle.std.specs.Prelude.{◌≡◌, ◌+◌, ◌<◌, ◌≤◌, ◌^◌, length};
+
+use crate::{Field, Span, at_most_one, check_boxes, head_of, next_box, one, put_box, put_head};
+use mp_ports::{Bad, Code};
+use std::test;
+
+// The first bytes of a box: a size, a type, 64 bits more, and zeros.
+fn front_of(size: u32, kind: &[u8; 4], wide: u64) -> [u8; 24] {
+    let mut front = [0; 24];
+    front[..4].copy_from_slice(&size.to_be_bytes());
+    front[4..8].copy_from_slice(kind);
+    front[8..16].copy_from_slice(&wide.to_be_bytes());
+    front
+}
+
+// The header's and the box's length, where `rest` bytes are left.
+fn read(size: u32, kind: &[u8; 4], wide: u64, rest: u64, top: bool) -> Result<(u64, u64), Code> {
+    let front = front_of(size, kind, wide);
+    let few = rest.min(24) as usize;
+    let found = head_of(&front[..few], rest, top)?;
+    Ok((found.head, found.len))
+}
+
+#[test]
+fn hostile_heads(rt: HostRuntime) -> Result<(), test::Fail> {
+    const CUT: Result<(u64, u64), Code> = Err(Code::BoxCut);
+    const SIZE: Result<(u64, u64), Code> = Err(Code::BoxSize);
+    let all = u64::MAX;
+    let rows = [
+        // sizes of a container's box, where 100 bytes are left
+        (0, b"free", 0, 100, false, SIZE),
+        (1, b"free", 15, 100, false, SIZE),
+        (1, b"free", 16, 100, false, Ok((16, 16))),
+        (2, b"free", 0, 100, false, SIZE),
+        (3, b"free", 0, 100, false, SIZE),
+        (4, b"free", 0, 100, false, SIZE),
+        (5, b"free", 0, 100, false, SIZE),
+        (6, b"free", 0, 100, false, SIZE),
+        (7, b"free", 0, 100, false, SIZE),
+        (8, b"free", 0, 100, false, Ok((8, 8))),
+        (9, b"free", 0, 100, false, Ok((8, 9))),
+        (15, b"free", 0, 100, false, Ok((8, 15))),
+        (16, b"free", 0, 100, false, Ok((8, 16))),
+        (100, b"free", 0, 100, false, Ok((8, 100))),
+        (101, b"free", 0, 100, false, CUT),
+        (u32::MAX, b"free", 0, 100, false, CUT),
+        (
+            u32::MAX,
+            b"free",
+            0,
+            4_294_967_295,
+            false,
+            Ok((8, 4_294_967_295)),
+        ),
+        (u32::MAX, b"free", 0, 4_294_967_294, false, CUT),
+        // sizes of 64 bits
+        (1, b"free", 0, 100, false, SIZE),
+        (1, b"free", 0, 100, true, SIZE),
+        (1, b"free", 8, 100, false, SIZE),
+        (1, b"free", 17, 100, false, Ok((16, 17))),
+        (1, b"free", 101, 100, false, CUT),
+        (1, b"free", 1 << 63, all, true, Ok((16, 1 << 63))),
+        (1, b"free", 1 << 63, (1 << 63) - 1, true, CUT),
+        (1, b"free", all, all, true, Ok((16, all))),
+        (1, b"free", all, all - 1, true, CUT),
+        // size 0: up to the end of the file, and in no container
+        (0, b"mdat", 0, 8, true, Ok((8, 8))),
+        (0, b"mdat", 0, 100, true, Ok((8, 100))),
+        (0, b"mdat", 0, all, true, Ok((8, all))),
+        (0, b"\0\0\0\0", 0, 9, true, Ok((8, 9))),
+        (0, b"mdat", 0, 7, true, CUT),
+        (0, b"mdat", 0, 7, false, CUT),
+        (0, b"mdat", 0, 8, false, SIZE),
+        // `uuid`, with 16 bytes more
+        (23, b"uuid", 0, 100, false, SIZE),
+        (24, b"uuid", 0, 100, false, Ok((24, 24))),
+        (24, b"uuid", 0, 24, false, Ok((24, 24))),
+        (24, b"uuid", 0, 23, false, CUT),
+        (8, b"uuid", 0, 8, false, CUT),
+        (0, b"uuid", 0, 23, false, CUT),
+        (0, b"uuid", 0, 24, true, Ok((24, 24))),
+        (0, b"uuid", 0, 24, false, SIZE),
+        (1, b"uuid", 31, 100, false, SIZE),
+        (1, b"uuid", 32, 100, false, Ok((32, 32))),
+        (1, b"uuid", 32, 32, false, Ok((32, 32))),
+        (1, b"uuid", 32, 31, false, CUT),
+        (1, b"uuid", 0, 31, false, CUT),
+    ];
+    for (size, kind, wide, rest, top, wanted) in rows {
+        assert_eq!(rt;
+            read(size, kind, wide, rest, top),
+            wanted,
+            "size {size} wide {wide} rest {rest}"
+        );
+    }
+    // a header that is cut at each byte
+    for rest in 0..8 {
+        assert_eq!(rt; read(8, b"free", 0, rest, true), CUT, "rest {rest}");
+    }
+    for rest in 0..16 {
+        assert_eq!(rt; read(1, b"free", 16, rest, true), CUT, "rest {rest}");
+    }
+    Ok(())
+}
+
+// The places of the boxes' ends in a body that stands at 1000, or the fault.
+fn ends(bytes: &[u8]) -> Result<(usize, usize), Bad>
+    requires { length bytes.now < 2 ^ 32 }
+{
+    let first = match next_box(bytes, 0, 1000)? {
+        Some(found) => found.len,
+        None => return Ok((0, 0)),
+    };
+    match next_box(bytes, first, 1000)? {
+        Some(found) => Ok((first, found.place + found.len)),
+        None => Ok((first, first)),
+    }
+}
+
+#[test]
+fn boxes_in_a_row(rt: HostRuntime) -> Result<(), test::Fail> {
+    let rows: [(&[u8], Result<(usize, usize), Bad>); 6] = [
+        (b"", Ok((0, 0))),
+        (b"\0\0\0\x09freeX", Ok((9, 9))),
+        (b"\0\0\0\x09freeX\0\0\0\x08skip", Ok((9, 17))),
+        // one byte past the container, and one byte behind the last box
+        (
+            b"\0\0\0\x09freeX\0\0\0\x09skip",
+            Err(Bad::at(Code::BoxCut, 1009)),
+        ),
+        (b"\0\0\0\x08free\0", Err(Bad::at(Code::BoxCut, 1008))),
+        (b"\0\0\0\x00free", Err(Bad::at(Code::BoxSize, 1000))),
+    ];
+    for (bytes, wanted) in rows {
+        let len = bytes.len();
+        assert!(rt; len < 100);
+        assert_eq!(rt; ends(bytes), wanted, "of {len} bytes");
+    }
+    Ok(())
+}
+
+// The one child of that type, of a body that stands at 1000 and is whole boxes.
+fn child(bytes: &[u8], kind: &[u8; 4]) -> Result<Span, Bad>
+    requires { length bytes.now < 2 ^ 32 }
+{
+    check_boxes(bytes, 1000)?;
+    one(bytes, 1000, *kind)
+}
+
+// The same, where there may be none.
+fn child_if_any(bytes: &[u8], kind: &[u8; 4]) -> Result<Option<Span>, Bad>
+    requires { length bytes.now < 2 ^ 32 }
+{
+    check_boxes(bytes, 1000)?;
+    at_most_one(bytes, 1000, *kind)
+}
+
+#[test]
+fn children(rt: HostRuntime) -> Result<(), test::Fail> {
+    // a free box with the byte X, a box of 64-bit size with the bytes YZ, and an empty one
+    let bytes = b"\0\0\0\x09freeX\0\0\0\x01wide\0\0\0\0\0\0\0\x12YZ\0\0\0\x08skip";
+    let free = Span {
+        from: 8,
+        to: 9,
+        place: 1000,
+    };
+    let wide = Span {
+        from: 25,
+        to: 27,
+        place: 1009,
+    };
+    let skip = Span {
+        from: 35,
+        to: 35,
+        place: 1027,
+    };
+    for (kind, span) in [(b"free", free), (b"wide", wide), (b"skip", skip)] {
+        assert_eq!(rt; child(bytes, kind), Ok(span));
+        assert_eq!(rt; child_if_any(bytes, kind), Ok(Some(span)));
+    }
+    assert_eq!(rt; child(bytes, b"moov"), Err(Bad::at(Code::BoxMissing, 1035)));
+    assert_eq!(rt; child_if_any(bytes, b"moov"), Ok(None));
+    assert_eq!(rt; child(b"", b"moov"), Err(Bad::at(Code::BoxMissing, 1000)));
+    // the second of three
+    let thrice = b"\0\0\0\x09freeX\0\0\0\x08skip\0\0\0\x08free\0\0\0\x08free";
+    assert_eq!(rt; child(thrice, b"free"), Err(Bad::at(Code::BoxTwice, 1017)));
+    assert_eq!(rt;
+        child_if_any(thrice, b"free"),
+        Err(Bad::at(Code::BoxTwice, 1017))
+    );
+    // whether the body is whole boxes is asked first
+    let faulty = b"\0\0\0\x08free\0\0\0\x08free\0\0\0\x07skip";
+    assert_eq!(rt; child(faulty, b"free"), Err(Bad::at(Code::BoxSize, 1016)));
+    Ok(())
+}
+
+#[test]
+fn written_boxes(rt: HostRuntime) -> Result<(), test::Fail> {
+    let mut out = [0xEE; 20];
+    assert_eq!(rt; put_head(&mut out, *b"mdat", 10), 8);
+    assert_eq!(rt; &out[..9], b"\0\0\0\x0Amdat\xEE".as_slice());
+    assert_eq!(rt; put_head(&mut out, *b"mdat", 4_294_967_295), 8);
+    assert_eq!(rt; &out[..9], b"\xFF\xFF\xFF\xFFmdat\xEE".as_slice());
+    assert_eq!(rt; put_head(&mut out, *b"mdat", 4_294_967_296), 16);
+    assert_eq!(rt;
+        &out[..17],
+        b"\0\0\0\x01mdat\0\0\0\x01\0\0\0\0\xEE".as_slice()
+    );
+    let fields = [
+        Field::version_and_flags(false, 1),
+        Field::U16(0x0102),
+        Field::Bytes(b"ab"),
+    ];
+    assert_eq!(rt; put_box(&mut out, *b"url ", &fields), 16);
+    assert_eq!(rt;
+        &out[..17],
+        b"\0\0\0\x10url \0\0\0\x01\x01\x02ab\xEE".as_slice()
+    );
+    Ok(())
+}
