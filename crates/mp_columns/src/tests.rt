@@ -1,0 +1,171 @@
+// Each call at a concrete type, through the bound. The answers were computed by hand.
+ghost use Rattle.std.specs.Prelude.{◌≡◌, ◌≤◌, All, FitsSigned, IfOk, IsTrue, length, pos, ◌*ℤ◌, int_rem};
+ghost use Rattle.std.specs.Int.{w64};
+
+use crate::{Col, Column, MOST_ITEMS};
+use mp_ports::NoMemory;
+use std::alloc::Global;
+use std::process::Abort;
+use std::test::Fail;
+
+#[derive(Clone, Copy)]
+enum Step<'a> {
+    Stay,
+    Append(&'a [i64]),
+    Keep(u32, u32),
+    Scale(u32),
+    Divide(u32),
+}
+
+// A list and a step; then the list after it, the sums of its first 0, 1, .. items, its greatest absolute value.
+type Row<'a> = (&'a [i64], Step<'a>, &'a [i64], &'a [i128], u64);
+
+fn filled<C: Column>(alloc: Global, items: &[i64]) -> Result<C, NoMemory>
+    requires { length items.now ≤ MOST_ITEMS }
+    ensures { IfOk result (λ column. C.items column ≡ items.now) }
+{
+    let mut column = C::new(alloc);
+    for item in items {
+        column.push(*item)?;
+    }
+    Ok(column)
+}
+
+fn product_fits(x: i64, k: u32) -> bool
+    ensures { IsTrue result → FitsSigned w64 (x *ℤ pos k) }
+{
+    x.checked_mul(i64::from(k)).is_some()
+}
+
+fn divides(k: u32, x: i64) -> bool
+    requires { 1 ≤ k }
+    ensures { IsTrue result → int_rem x (pos k) ≡ pos 0 }
+{
+    x % i64::from(k) == 0
+}
+
+fn can_scale<C: Column>(column: &C, k: u32) -> bool
+    ensures { IsTrue result → All (λ x. FitsSigned w64 (x *ℤ pos k)) (C.items column.now) }
+{
+    for i in 0..column.len() {
+        if !product_fits(column.at(i), k) {
+            return false;
+        }
+    }
+    true
+}
+
+fn can_divide<C: Column>(column: &C, k: u32) -> bool
+    requires { 1 ≤ k }
+    ensures { IsTrue result → All (λ x. int_rem x (pos k) ≡ pos 0) (C.items column.now) }
+{
+    for i in 0..column.len() {
+        if !divides(k, column.at(i)) {
+            return false;
+        }
+    }
+    true
+}
+
+fn take_step<C: Column>(
+    rt: &impl Abort,
+    alloc: Global,
+    column: &mut C,
+    step: Step,
+) -> Result<(), NoMemory> {
+    match step {
+        Step::Stay => Ok(()),
+        Step::Append(more) => {
+            assert!(rt; more.len() <= 8 && column.len() <= 8);
+            let other = filled::<C>(alloc, more)?;
+            column.append(&other)
+        }
+        Step::Keep(from, to) => {
+            assert!(rt; from <= to && to <= column.len());
+            column.keep_range(from, to);
+            Ok(())
+        }
+        Step::Scale(k) => {
+            assert!(rt; can_scale(column, k));
+            column.scale_by(k);
+            Ok(())
+        }
+        Step::Divide(k) => {
+            assert!(rt; k >= 1);
+            assert!(rt; can_divide(column, k));
+            column.divide_by(k);
+            Ok(())
+        }
+    }
+}
+
+fn run_row<C: Column>(
+    rt: &impl Abort,
+    alloc: Global,
+    row: usize,
+    case: Row,
+) -> Result<(), NoMemory> {
+    let (items, step, left, sums, largest) = case;
+    assert!(rt; items.len() <= 8 && sums.len() == left.len() + 1);
+    let mut column = filled::<C>(alloc, items)?;
+    take_step(rt, alloc, &mut column, step)?;
+    assert_eq!(rt; column.len() as usize, left.len(), "row {row}");
+    for i in 0..column.len() {
+        assert_eq!(rt; column.at(i), left[i as usize], "row {row} item {i}");
+        assert_eq!(rt; column.prefix(i), sums[i as usize], "row {row} item {i}");
+    }
+    assert_eq!(rt; column.prefix(column.len()), sums[left.len()], "row {row}");
+    assert_eq!(rt; column.total(), sums[left.len()], "row {row}");
+    assert_eq!(rt; column.largest(), largest, "row {row}");
+    Ok(())
+}
+
+#[test]
+fn calls_answer_as_by_hand(rt: HostRuntime) -> Result<(), Fail> {
+    let rows: [Row; 10] = [
+        (&[], Step::Stay, &[], &[0], 0),
+        (&[5, -7, 0], Step::Stay, &[5, -7, 0], &[0, 5, -2, -2], 7),
+        (
+            &[i64::MIN, i64::MIN],
+            Step::Stay,
+            &[i64::MIN, i64::MIN],
+            &[0, -9_223_372_036_854_775_808, -18_446_744_073_709_551_616],
+            9_223_372_036_854_775_808,
+        ),
+        (
+            &[1, 2],
+            Step::Append(&[3, -4]),
+            &[1, 2, 3, -4],
+            &[0, 1, 3, 6, 2],
+            4,
+        ),
+        (&[1, 2, 3, 4], Step::Keep(1, 3), &[2, 3], &[0, 2, 5], 3),
+        (&[1, 2, 3, 4], Step::Keep(4, 4), &[], &[0], 0),
+        (&[3, -4], Step::Scale(0), &[0, 0], &[0, 0, 0], 0),
+        (
+            &[3, -4],
+            Step::Scale(4_294_967_295),
+            &[12_884_901_885, -17_179_869_180],
+            &[0, 12_884_901_885, -4_294_967_295],
+            17_179_869_180,
+        ),
+        (
+            &[-6, 4, 0],
+            Step::Divide(2),
+            &[-3, 2, 0],
+            &[0, -3, -1, -1],
+            3,
+        ),
+        (
+            &[i64::MIN],
+            Step::Divide(2_147_483_648),
+            &[-4_294_967_296],
+            &[0, -4_294_967_296],
+            4_294_967_296,
+        ),
+    ];
+    for (row, case) in rows.iter().enumerate() {
+        run_row::<Col>(&rt, rt.alloc(), row, *case)?;
+    }
+    Ok(())
+}

@@ -1,0 +1,61 @@
+// Walks over the numbers of a list.
+ghost use Rattle.std.specs.Prelude.{◌≡◌, ◌≤◌, All, FitsSigned, length, map, slice_range, pos, ◌*ℤ◌, int_div, int_rem};
+ghost use Rattle.std.specs.Int.{w64};
+ghost use Rattle.mp_columns.specs.Numbers.{total, largest};
+
+use crate::columns::MOST_ITEMS;
+
+/// The sum.
+pub(crate) fn sum_of(items: &[i64]) -> i128
+    requires { length items.now ≤ MOST_ITEMS }
+    ensures { result ≡ total items.now }
+{
+    let mut sum = 0;
+    for item in items {
+        sum += i128::from(*item);
+    }
+    sum
+}
+
+/// The greatest absolute value, or 0.
+pub(crate) fn largest_of(items: &[i64]) -> u64
+    ensures { result ≡ largest items.now }
+{
+    let mut most = 0;
+    for item in items {
+        most = most.max(item.unsigned_abs());
+    }
+    most
+}
+
+/// Keeps the items from `from` up to `to`, and moves each of them once.
+pub(crate) fn keep(items: &mut Vec<i64>, from: usize, to: usize)
+    requires order { from ≤ to }
+    requires inside { to ≤ length items.old.items }
+    ensures { items.new.items ≡ slice_range items.old.items from to }
+{
+    items.copy_within(from..to, 0);
+    items.truncate(to - from);
+}
+
+/// Each item times `k`.
+pub(crate) fn scale_each(items: &mut [i64], k: u32)
+    requires { All (λ x. FitsSigned w64 (x *ℤ pos k)) items.old }
+    ensures { items.new ≡ map (λ x. x *ℤ pos k) items.old }
+{
+    for item in items.iter_mut() {
+        *item *= i64::from(k);
+    }
+}
+
+/// Each item divided by `k`.
+pub(crate) fn divide_each(items: &mut [i64], k: u32)
+    requires some { 1 ≤ k }
+    requires whole { All (λ x. int_rem x (pos k) ≡ pos 0) items.old }
+    ensures quotients { items.new ≡ map (λ x. int_div x (pos k)) items.old }
+    ensures exact { map (λ x. x *ℤ pos k) items.new ≡ items.old }
+{
+    for item in items.iter_mut() {
+        *item /= i64::from(k);
+    }
+}
