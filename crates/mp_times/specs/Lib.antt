@@ -1,0 +1,5 @@
+pub mod Table
+pub mod Times
+pub mod Sync
+pub mod Stretch
+pub mod Written
