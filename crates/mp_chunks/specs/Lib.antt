@@ -1,0 +1,6 @@
+pub mod Table
+pub mod Sizes
+pub mod Chunks
+pub mod Places
+pub mod Answer
+pub mod Walk
