@@ -1,0 +1,10 @@
+pub mod Version
+pub mod FullBox
+pub mod FileType
+pub mod MovieHeader
+pub mod TrackHeader
+pub mod MediaHeader
+pub mod Handler
+pub mod MediaInformation
+pub mod DataReference
+pub mod Written
