@@ -1,0 +1,147 @@
+-- What is kept and what is written are sample entries.
+use Rattle.std.proofs.Common.{◌≡◌, ℕ, ◌+◌, ◌-◌, ◌^◌, ◌<◌, ◌≤◌, Bool, true, false, cond, List, [], ◌∷◌, ◌++◌, length, get_or, take, drop, set, Option, Some, None, Ok, refl, sym, ap, ◌∙◌, append_assoc, arith}
+use Rattle.std.specs.Prelude.{codes, if◌then◌else◌}
+use Rattle.std.specs.Int.{w32, to_be_bytes}
+use Rattle.std.specs.Str.{bytes_eq}
+use Rattle.std.proofs.lemmas.Bool.{ltb-false}
+use Rattle.std.proofs.lemmas.List.{append-nil, drop_all, length-append, length-take, length-drop, length-set, take-append-drop, take-set-le, get_or-set_same, get_or-set_other, take_more_set, drop-set-lt}
+use Rattle.mp_ports.specs.declared.code.Code.{Code}
+use Rattle.mp_boxes.specs.declared.head.TopHead.{TopHead}
+use Rattle.mp_boxes.specs.Boxes.{IsBytes}
+use Rattle.mp_boxes.specs.Number.{u16_at}
+use Rattle.mp_boxes.specs.Header.{Short, IsHeader}
+use Rattle.mp_boxes.specs.Head.{head_at}
+use Rattle.mp_boxes.specs.Field.{Part, box_bytes, body_bytes}
+use Rattle.mp_boxes.specs.Parts.{HasPlainKind}
+use Rattle.mp_entries.specs.Entry.{IsEntry, is_protected}
+use Rattle.mp_entries.specs.Kept.{entry_fault, with_first_reference, kept_entry}
+use Rattle.mp_entries.specs.Esds.{EsdsRecord, sound_fields, picture_fields, esds, esds_entry}
+
+same_head : (a b : TopHead) → a.kind ≡ b.kind → a.head ≡ b.head → a.len ≡ b.len → a ≡ b
+same_head a b p q r = λ i. record { kind = p i; head = q i; len = r i }
+
+-- each spelling of a header is read
+abbrev pub Read : Type 0
+Read = (top : Bool) (kind header body after : List ℕ) → IsHeader top kind (length body) after header
+    → head_at top (header ++ (body ++ after)) ≡ Ok (record { kind = kind; head = length header; len = length header + length body })
+
+-- what is read is spelled so
+abbrev pub Spelled : Type 0
+Spelled = (top : Bool) (text : List ℕ) (head : TopHead) → IsBytes text → head_at top text ≡ Ok head
+    → IsHeader top head.kind (head.len - head.head) (drop head.len text) (take head.head text)
+
+pub head_stays : (text body : List ℕ) (head : TopHead) → IsBytes text → head_at false text ≡ Ok head → head.len ≡ length text → head.head + length body ≡ length text
+    → Read → Spelled → head_at false (take head.head text ++ body) ≡ Ok head
+head_stays text body head bytes read ends len reads spelled =
+    let header = take head.head text in
+    let size : head.len - head.head ≡ length body = omega arith in
+    let none : drop head.len text ≡ [] = drop_all head.len text (omega arith) in
+    let is : IsHeader false head.kind (length body) [] header = rw (size, none) at (spelled false text head bytes read) in
+    let header_len : length header ≡ head.head = omega (arith, length-take head.head text) in
+    let again = reads false head.kind header body [] is in
+    ap (λ (t : List ℕ). head_at false (header ++ t)) (sym (append-nil body))
+    ∙ (again ∙ ap (λ (h : TopHead). Ok h) (same_head _ head refl header_len (omega arith)))
+
+pub written_is_whole : (part : Part) → HasPlainKind part → 8 + length part.body < 2 ^ 32 → Read
+    → head_at false (box_bytes part) ≡ Ok (record { kind = part.kind; head = 8; len = 8 + length part.body })
+unfolding box_bytes
+written_is_whole part plain small reads =
+    let header = to_be_bytes w32 (8 + length part.body) ++ part.kind in
+    let size : length header ≡ 8 = let four = plain.four in omega (arith, length-append (to_be_bytes w32 (8 + length part.body)) part.kind) in
+    let is : IsHeader false part.kind (length part.body) [] header = record {
+      spelling = Short;
+      more = [];
+      kind_len = plain.four;
+      more_len = let not_uuid = plain.plain in rw not_uuid refl;
+      allowed = omega arith;
+      text = sym (append-nil header);
+    } in
+    ap (λ (t : List ℕ). head_at false (header ++ t)) (sym (append-nil part.body))
+    ∙ (reads false part.kind header part.body [] is ∙ ap (λ (h : TopHead). Ok h) (same_head _ _ refl size (omega arith)))
+
+-- the head of a whole box stays
+abbrev pub Stays : Type 0
+Stays = (text body : List ℕ) (head : TopHead) → IsBytes text → head_at false text ≡ Ok head → head.len ≡ length text → head.head + length body ≡ length text
+    → head_at false (take head.head text ++ body) ≡ Ok head
+
+-- a box that is written is whole
+abbrev pub Whole : Type 0
+Whole = (part : Part) → HasPlainKind part → 8 + length part.body < 2 ^ 32 → head_at false (box_bytes part) ≡ Ok (record { kind = part.kind; head = 8; len = 8 + length part.body })
+
+-- a check is passed, and the others
+passed : (test : Bool) (code : Code) (others : Option Code) → (if test then Some code else others) ≡ None → (test ≡ false) × (others ≡ None)
+passed true code others e = absurd cc
+passed false code others e = (refl, e)
+
+pub kept_is : (base : ℕ) (bytes : List ℕ) (local : List Bool) (head : TopHead) → head_at false bytes ≡ Ok head → entry_fault head.kind head.head bytes local ≡ None
+    → kept_entry base bytes local ≡ Ok (with_first_reference head.head bytes)
+kept_is base bytes local head e f = rw (e, f) refl
+
+pub entry_room : (bytes : List ℕ) (local : List Bool) (head : TopHead) → entry_fault head.kind head.head bytes local ≡ None → head.head + 8 ≤ length bytes
+entry_room bytes local head fine = ltb-false _ _ (passed _ _ _ fine).0
+
+entry_plain : (bytes : List ℕ) (local : List Bool) (head : TopHead) → entry_fault head.kind head.head bytes local ≡ None → is_protected head.kind ≡ false
+entry_plain bytes local head fine = (passed _ _ _ (passed _ _ _ fine).1).0
+
+-- the two bytes of the index
+pub index_set : (bytes : List ℕ) (from : ℕ) → from + 8 ≤ length bytes → with_first_reference from bytes ≡ set (set bytes (from + 6) 0) (from + 7) 1
+index_set bytes from le =
+    let low = set bytes (from + 6) 0 in
+    let new = set low (from + 7) 1 in
+    let low_in : from + 6 < length bytes = omega arith in
+    let high_in : from + 7 < length low = omega (arith, length-set bytes (from + 6) 0) in
+    let sixth : from + 7 ≡ from + 6 + 1 = omega arith in
+    let seventh : from + 8 ≡ from + 7 + 1 = omega arith in
+    let two : take (from + 7) low ≡ take (from + 6) bytes ++ 0 ∷ [] = ap (λ (n : ℕ). take n low) sixth ∙ take_more_set bytes (from + 6) 0 low_in in
+    let front : take (from + 8) new ≡ (take (from + 6) bytes ++ 0 ∷ []) ++ 1 ∷ [] =
+    ap (λ (n : ℕ). take n new) seventh ∙ (take_more_set low (from + 7) 1 high_in ∙ ap (λ (t : List ℕ). t ++ 1 ∷ []) two) in
+    let behind : drop (from + 8) new ≡ drop (from + 8) bytes = drop-set-lt (from + 8) low (from + 7) 1 (omega arith) ∙ drop-set-lt (from + 8) bytes (from + 6) 0 (omega arith) in
+    ap (λ (t : List ℕ). t ++ drop (from + 8) bytes) (sym (append_assoc (take (from + 6) bytes) (0 ∷ []) (1 ∷ [])) ∙ sym front)
+    ∙ (ap (λ (t : List ℕ). take (from + 8) new ++ t) (sym behind) ∙ take-append-drop (from + 8) new)
+
+pub kept_is_entry : (bytes : List ℕ) (local : List Bool) (head : TopHead) → IsBytes bytes → head_at false bytes ≡ Ok head → head.len ≡ length bytes → entry_fault head.kind head.head bytes local ≡ None
+    → Stays → IsEntry (set (set bytes (head.head + 6) 0) (head.head + 7) 1)
+unfolding u16_at
+kept_is_entry bytes local head all read ends fine stays =
+    let from = head.head in
+    let new = set (set bytes (from + 6) 0) (from + 7) 1 in
+    let room : from + 8 ≤ length bytes = entry_room bytes local head fine in
+    let plain = entry_plain bytes local head fine in
+    let len : length new ≡ length bytes = length-set (set bytes (from + 6) 0) (from + 7) 1 ∙ length-set bytes (from + 6) 0 in
+    let front : take from new ≡ take from bytes = take-set-le from (set bytes (from + 6) 0) (from + 7) 1 (omega arith) ∙ take-set-le from bytes (from + 6) 0 (omega arith) in
+    let parts : take from bytes ++ drop from new ≡ new = ap (λ (t : List ℕ). t ++ drop from new) (sym front) ∙ take-append-drop from new in
+    let again = stays bytes (drop from new) head all read ends (omega (arith, length-drop from new)) in
+    let zero_is : get_or new (from + 6) 0 ≡ 0 =
+    get_or-set_other (set bytes (from + 6) 0) (from + 7) (from + 6) 1 0 (λ e. omega arith) ∙ get_or-set_same bytes (from + 6) 0 0 (omega arith) in
+    let place : from + 6 + 1 ≡ from + 7 = omega arith in
+    let one_is : get_or new (from + 6 + 1) 0 ≡ 1 = rw place (get_or-set_same (set bytes (from + 6) 0) (from + 7) 1 0 (omega (arith, length-set bytes (from + 6) 0))) in
+    record {
+      head = head;
+      read = ap (head_at false) (sym parts) ∙ again;
+      ends = ends ∙ sym len;
+      room = omega arith;
+      plain = plain;
+      first = rw (zero_is, one_is) refl;
+    }
+
+part_is_entry : (a b c d : ℕ) (rest : List ℕ) → bytes_eq (a ∷ b ∷ c ∷ d ∷ []) (codes "uuid") ≡ false → is_protected (a ∷ b ∷ c ∷ d ∷ []) ≡ false → Whole
+    → 8 + length (0 ∷ 0 ∷ 0 ∷ 0 ∷ 0 ∷ 0 ∷ 0 ∷ 1 ∷ rest) < 2 ^ 32 → IsEntry (box_bytes (record { kind = a ∷ b ∷ c ∷ d ∷ []; body = 0 ∷ 0 ∷ 0 ∷ 0 ∷ 0 ∷ 0 ∷ 0 ∷ 1 ∷ rest }))
+unfolding box_bytes u16_at
+part_is_entry a b c d rest plain open_ whole small =
+    let part : Part = record { kind = a ∷ b ∷ c ∷ d ∷ []; body = 0 ∷ 0 ∷ 0 ∷ 0 ∷ 0 ∷ 0 ∷ 0 ∷ 1 ∷ rest } in
+    record {
+      head = record { kind = part.kind; head = 8; len = 8 + length part.body };
+      read = whole part (record { four = refl; plain = plain }) small;
+      ends = omega arith;
+      room = omega arith;
+      plain = open_;
+      first = refl;
+    }
+
+pub written_is_entry : (e : EsdsRecord) → Whole → 8 + length (esds_entry e).body < 2 ^ 32 → IsEntry (box_bytes (esds_entry e))
+written_is_entry e whole small = by e.audio small
+  where
+    by : (audio : Bool) → 8 + length (body_bytes (cond audio (sound_fields e) picture_fields) ++ box_bytes (esds e)) < 2 ^ 32
+        → IsEntry (box_bytes (record { kind = cond audio (codes "mp4a") (codes "mp4v"); body = body_bytes (cond audio (sound_fields e) picture_fields) ++ box_bytes (esds e) }))
+    by true small = part_is_entry 109 112 52 97 _ refl refl whole small
+    by false small = part_is_entry 109 112 52 118 _ refl refl whole small
