@@ -1,0 +1,12 @@
+use Rattle.std.proofs.Common.{◌≡◌, ◌++◌, map}
+use Rattle.mp_edits.specs.Entry.{entries_of, segment_of}
+use Rattle.mp_edits.specs.Table.{entries_fault}
+use Rattle.mp_edits.proofs.Reading.{entries_from}
+use Rattle.mp_edits.proofs.read.read_entries.Given as goal
+
+-- the segments so far and those that are left are all; no entry so far has a fault
+abbrev pub invariant-loop-i : goal.invariant-loop-i
+invariant-loop-i l = record {
+  segments : l.edits.items ++ map segment_of (entries_from l.wide l.count l.i l.bytes) ≡ map segment_of (entries_of l.wide l.count l.bytes);
+  fault : entries_fault l.base (entries_from l.wide l.count l.i l.bytes) ≡ entries_fault l.base (entries_of l.wide l.count l.bytes);
+}

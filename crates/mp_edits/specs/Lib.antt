@@ -1,0 +1,4 @@
+pub mod Segments
+pub mod Entry
+pub mod Table
+pub mod Written
