@@ -1,0 +1,9 @@
+mod Boxes
+mod Checks
+mod Fields
+mod Frames
+mod Laws
+mod Passing
+mod Plain
+mod Streams
+mod Singles

@@ -1,0 +1,19 @@
+use Rattle.std.proofs.Common.{◌<◌, length, Err, ap, sym, ◌∙◌, arith, rules}
+use Rattle.std.proofs.lemmas.List.Elements.{All-from_get_or}
+use Rattle.mp_timeline.specs.Single.{AreBytes}
+use Rattle.adts_import.proofs.Laws.{first_fault}
+use Rattle.adts_import.proofs.Plain.{plain_of}
+use Rattle.adts_import.proofs.Singles.{sound_single}
+use Rattle.adts_import.proofs.import.read_stream.Goals as goal
+
+pub returns-in-Err-clause-movie : goal.returns-in-Err-clause-movie
+returns-in-Err-clause-movie c =
+    let some : 0 < length c.args.bytes.now = search rules in
+    first_fault c.args.bytes.now c.in-Err.code some c.in-Err.ensures.fault ∙ ap Err (sym c.at-in-Err.ensures)
+
+pub returns-clause-single : goal.returns-clause-single
+returns-clause-single c =
+    let bytes : AreBytes c.args.bytes.now = All-from_get_or (λ byte. byte < 256) c.args.bytes.now 0 (λ i inside. omega (arith, c.type_inv.bytes i)) in
+    let some : 0 < length c.args.bytes.now = search rules in
+    let samples = plain_of c.args.bytes.now c.in_ok-samples.samples.items bytes some c.in_ok-samples.ensures in
+    rw c.in_ok-movie.ensures (sound_single c.in-Ok.first.configuration c.in_ok-samples.samples.items c.in-Ok.ensures.bounds.configuration samples.some samples.few samples.plain)

@@ -1,0 +1,5 @@
+pub mod Header
+pub mod Frame
+pub mod Entry
+pub mod Sound
+pub mod Stream

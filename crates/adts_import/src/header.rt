@@ -1,0 +1,106 @@
+//! The header of an ADTS frame.
+
+ghost use Rattle.std.specs.Prelude.{◌≡◌, ◌+◌, ◌≤◌, ◌<◌, ◌^◌, length, IfOk, Some, None};
+ghost use Rattle.mp_ports.specs.Answer.{Checks};
+ghost use Rattle.adts_import.specs.Header.{front_number, bits};
+ghost use Rattle.adts_import.specs.Frame.{header_fault, header_of, IsHeader};
+
+use mp_ports::Code;
+
+const SYNC: u64 = 0xFFF;
+
+const LAST_FREQUENCY_INDEX: u8 = 12;
+
+/// What is one for a whole stream: the profile (object type less 1), the index of its frequency and
+/// its channel configuration (ISO/IEC 14496-3, 1.A.3.2.1).
+#[derive(Clone, Copy, Debug, PartialEq, Eq)]
+pub struct Configuration {
+    pub profile: u8,
+    pub frequency_index: u8,
+    pub channels: u8,
+}
+
+/// The fields of a frame's header that the import needs; lengths in bytes.
+#[derive(Clone, Copy, Debug, PartialEq, Eq)]
+pub(crate) struct Header {
+    pub(crate) configuration: Configuration,
+    pub(crate) header_len: usize,
+    pub(crate) frame_len: usize,
+}
+
+#[tactic(auto, unfolding(crate::specs::Header::front_number))]
+fn front_number(frame: &[u8]) -> u64
+    requires { 7 ≤ length frame.now }
+    ensures { result ≡ front_number frame.now }
+{
+    u64::from_be_bytes([
+        0, frame[0], frame[1], frame[2], frame[3], frame[4], frame[5], frame[6],
+    ])
+}
+
+/// The field of `count` bits behind the first `from` bits of the header, whose number is `front`.
+#[tactic(auto, unfolding(crate::specs::Header::bits))]
+fn bits(frame: &[u8], from: u32, count: u32) -> u64
+    requires whole { 7 ≤ length frame.now }
+    requires inside { from + count ≤ 56 }
+    ensures value { result ≡ bits frame.now from count }
+    ensures below { result < 2 ^ count }
+{
+    (front_number(frame) >> (56 - (from + count))) & ((1 << count) - 1)
+}
+
+/// Reads the header of the frame that `rest` begins with, and tests the frame.
+///
+/// `AdtsCut` where the frame ends behind `rest`, `AdtsSync`, `AdtsLayer`, `AdtsRate`, `AdtsChannels`
+/// and `AdtsBlocks` where that field is none of a frame of AAC with one block.
+#[tactic(auto, unfolding(crate::specs::Frame::header_fault))]
+pub(crate) fn read_header(rest: &[u8]) -> Result<Header, Code>
+    ensures fault { Checks result (header_fault rest.now) }
+    ensures header { IfOk result (λ header. header ≡ header_of rest.now) }
+    ensures bounds { IfOk result (λ header. IsHeader header (length rest.now)) }
+{
+    if rest.len() < 7 {
+        return Err(Code::AdtsCut);
+    }
+    if bits(rest, 0, 12) != SYNC {
+        return Err(Code::AdtsSync);
+    }
+    if bits(rest, 13, 2) != 0 {
+        return Err(Code::AdtsLayer);
+    }
+    let header = fields_of(rest);
+    if header.configuration.frequency_index > LAST_FREQUENCY_INDEX {
+        return Err(Code::AdtsRate);
+    }
+    if header.configuration.channels == 0 {
+        return Err(Code::AdtsChannels);
+    }
+    if header.frame_len < header.header_len || rest.len() < header.frame_len {
+        return Err(Code::AdtsCut);
+    }
+    if bits(rest, 54, 2) != 0 {
+        return Err(Code::AdtsBlocks);
+    }
+    Ok(header)
+}
+
+fn fields_of(rest: &[u8]) -> Header
+    requires { 7 ≤ length rest.now }
+    ensures fields { result ≡ header_of rest.now }
+    ensures profile { result.configuration.profile < 4 }
+    ensures channels { result.configuration.channels < 8 }
+    ensures frame_len { result.frame_len < 2 ^ 13 }
+{
+    let configuration = Configuration {
+        profile: bits(rest, 16, 2) as u8,
+        frequency_index: bits(rest, 18, 4) as u8,
+        channels: bits(rest, 23, 3) as u8,
+    };
+    let header_len = if bits(rest, 15, 1) == 0 { 9 } else { 7 };
+    let frame_len = bits(rest, 30, 13) as usize;
+    Header {
+        configuration,
+        header_len,
+        frame_len,
+    }
+}
