@@ -1,0 +1,13 @@
+use Rattle.std.proofs.Common.{rules, refl, append_assoc, append-nil, arith}
+use Rattle.std.specs.Int.{w32, to_be_bytes}
+use Rattle.mp_layout.proofs.buffer.open_box.Goals as goal
+
+pub returns-clause-open : goal.returns-clause-open
+returns-clause-open c = record {
+  size = to_be_bytes w32 0;
+  size_len = refl;
+  kind_len = search rules;
+  text = rw (c.in_ok-push_bytes.ensures.items, c.in_ok-push_u32.ensures.items) (simp (append_assoc, append-nil));
+  place = search rules;
+  within = omega arith;
+}

@@ -1,0 +1,49 @@
+-- The file of a movie: `ftyp`, `moov` and `mdat` (ISO/IEC 14496-12, 4.3, 8.2.1 and 8.1.1).
+use Rattle.std.specs.Prelude.{ℕ, zero, suc, ◌+◌, ◌-◌, ◌^◌, Bool, true, false, ◌||◌, nat_lt, nat_le, List, [], ◌∷◌, ◌++◌, map, filter, length, get_or, codes, if◌then◌else◌}
+use Rattle.std.specs.List.{list_all, range_with_len}
+use Rattle.std.specs.Int.{w32, w64, to_be_bytes}
+use Rattle.mp_boxes.specs.Field.{box_bytes}
+use Rattle.mp_headers.specs.FileType.{ftyp}
+use Rattle.mp_timeline.specs.Movie.{MovieRecord}
+use Rattle.mp_layout.specs.Order.{Chunk, chunks_of, payload, places_at}
+use Rattle.mp_layout.specs.Moov.{moov}
+
+-- the header of `mdat`, whose size is written in 64 bits where 32 don't hold it
+unfoldable pub mdat_head : ℕ → List ℕ
+mdat_head len =
+    if nat_lt (8 + len) (2 ^ 32) then to_be_bytes w32 (8 + len) ++ codes "mdat"
+    else to_be_bytes w32 1 ++ codes "mdat" ++ to_be_bytes w64 (16 + len)
+
+-- what stands in front of the payload, where the payload stands at `place` and these tracks have places of 64 bits
+abbrev pub front_at : MovieRecord → List Chunk → List Bool → ℕ → List ℕ
+front_at movie chunks wide place = box_bytes ftyp ++ box_bytes (moov movie chunks wide place) ++ mdat_head (length (payload chunks))
+
+-- the place of the payload. How long the front is does not depend on the places that it states
+unfoldable pub payload_place : MovieRecord → List Chunk → List Bool → ℕ
+payload_place movie chunks wide = length (front_at movie chunks wide 0)
+
+-- all sets of tracks, for each track a flag
+abbrev pub sets_of : ℕ → List (List Bool)
+sets_of zero = [] ∷ []
+sets_of (suc tracks) = map (λ set. false ∷ set) (sets_of tracks) ++ map (λ set. true ∷ set) (sets_of tracks)
+
+-- with places of 64 bits for just these tracks, each place of every other track fits 32 bits
+abbrev pub is_closed : MovieRecord → List Chunk → List Bool → Bool
+is_closed movie chunks wide =
+    list_all
+    (λ position. get_or wide position true || list_all (λ place. nat_le place (2 ^ 32 - 1)) (places_at position (payload_place movie chunks wide) chunks))
+    (range_with_len 0 (length movie.tracks))
+
+-- the tracks with places of 64 bits: those in all closed sets, which is the least of them
+unfoldable pub wide_tracks : MovieRecord → List Chunk → List Bool
+wide_tracks movie chunks =
+    let tracks = length movie.tracks in
+    let closed = filter (is_closed movie chunks) (sets_of tracks) in
+    map (λ position. list_all (λ wide. get_or wide position true) closed) (range_with_len 0 tracks)
+
+-- the file, its samples in windows of so many milliseconds, or in one window where that is 0
+unfoldable pub file_bytes : MovieRecord → ℕ → List ℕ
+file_bytes movie millis =
+    let chunks = chunks_of millis movie in
+    let wide = wide_tracks movie chunks in
+    front_at movie chunks wide (payload_place movie chunks wide) ++ payload chunks

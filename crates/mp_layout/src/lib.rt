@@ -1,0 +1,19 @@
+//! The file that is written: `ftyp`, `moov` and `mdat` of a movie (ISO/IEC 14496-12, 4.3, 8.2.1 and 8.1.1).
+//!
+//! `plan_file` makes all that stands in front of the samples' bytes, and takes all memory that is
+//! needed. `emit` then appends the file to a folder, the samples' bytes as they stand. The plan is
+//! made for a movie of one track that is shown as it is.
+#![tactic(auto)]
+
+mod buffer;
+mod durations;
+mod heads;
+mod law;
+mod moov;
+mod output;
+mod plan;
+mod tables;
+
+pub use law::file_presents_movie;
+pub use output::emit;
+pub use plan::{FilePlan, plan_file};

@@ -1,0 +1,50 @@
+// The file is appended to a folder.
+ghost use Rattle.std.specs.Prelude.{OnOk, OnErr};
+ghost use Rattle.std.specs.List.{flat_map};
+ghost use Rattle.mp_ports.specs.Folder.{IsWriting, Appends, FailsToAppend};
+ghost use Rattle.mp_layout.specs.Order.{joined};
+ghost use Rattle.mp_layout.specs.File.{file_bytes};
+ghost use Rattle.mp_layout.specs.Plan.{IsPlan};
+ghost use Rattle.mp_layout.specs.Single.{track_bytes};
+
+use crate::plan::FilePlan;
+use mp_ports::{Folder, PortFault};
+use mp_timeline::{PlainMovie, PlainSample, PlainTrack};
+
+/// Writes the planned file of the movie: its front in one piece, then each sample's bytes as they stand.
+///
+/// It takes no memory. Where an append fails, the folder has a front part of the file.
+pub fn emit<F: Folder>(file: &FilePlan, movie: &PlainMovie, folder: &mut F) -> Result<(), PortFault>
+    requires plan { IsPlan file.now movie.now }
+    requires writing { IsWriting (F.state folder.old) }
+    ensures written { OnOk result (Appends (F.state folder.old) (F.state folder.new) (file_bytes movie.now 0)) }
+    ensures failed { OnErr result (FailsToAppend (F.state folder.old) (F.state folder.new) (file_bytes movie.now 0)) }
+{
+    folder.append(&file.front)?;
+    append_tracks(&movie.tracks, folder)?;
+    Ok(())
+}
+
+/// Appends the bytes of the samples of each track, track after track.
+fn append_tracks<F: Folder>(tracks: &[PlainTrack], folder: &mut F) -> Result<(), PortFault>
+    requires { IsWriting (F.state folder.old) }
+    ensures written { OnOk result (Appends (F.state folder.old) (F.state folder.new) (flat_map track_bytes tracks.now)) }
+    ensures failed { OnErr result (FailsToAppend (F.state folder.old) (F.state folder.new) (flat_map track_bytes tracks.now)) }
+{
+    for track in tracks {
+        append_samples(&track.samples, folder)?;
+    }
+    Ok(())
+}
+
+/// Appends the bytes of the samples, in order.
+fn append_samples<F: Folder>(samples: &[PlainSample], folder: &mut F) -> Result<(), PortFault>
+    requires { IsWriting (F.state folder.old) }
+    ensures written { OnOk result (Appends (F.state folder.old) (F.state folder.new) (joined samples.now)) }
+    ensures failed { OnErr result (FailsToAppend (F.state folder.old) (F.state folder.new) (joined samples.now)) }
+{
+    for sample in samples {
+        folder.append(&sample.bytes)?;
+    }
+    Ok(())
+}
