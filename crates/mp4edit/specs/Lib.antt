@@ -1,0 +1,7 @@
+pub mod Words
+pub mod Outcome
+pub mod Line
+pub mod Written
+pub mod Run
+pub mod Reading
+pub mod Status

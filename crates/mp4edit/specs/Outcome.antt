@@ -1,0 +1,40 @@
+-- What a job comes to, given the files that are held.
+use Rattle.std.specs.Prelude.{ℕ, List, length, nat_lt, Option, Some, None, Result, Ok, Err, if◌then◌else◌}
+use Rattle.mp_ports.specs.declared.fault.Bad.{Bad}
+use Rattle.mp_ports.specs.declared.code.Code.TheVariants.{InputLimit}
+use Rattle.mp_ports.specs.Answer.{bad_at}
+use Rattle.mp_ports.specs.Folder.{HeldFile, bytes_under}
+use Rattle.mp_timeline.specs.Movie.{MovieRecord}
+use Rattle.adts_import.specs.Stream.{stream_movie}
+use Rattle.mp4edit.specs.Words.{JobRecord}
+
+-- a movie to be written, a refusal, or an option whose file is missing
+pub data Outcome : Type 0 where
+  Movie : MovieRecord → Outcome
+  Refusal : Bad → Outcome
+  Absent : ℕ → Outcome
+
+-- the movie of an input of at most 67,108,864 bytes
+abbrev pub input_movie : List ℕ → Result MovieRecord Bad
+input_movie bytes = if nat_lt 67108864 (length bytes) then Err (bad_at InputLimit 0) else stream_movie bytes
+
+-- the movie of an option's input, or its refusal under that option's number
+abbrev pub outcome_of : ℕ → Result MovieRecord Bad → Outcome
+outcome_of command (Ok movie) = Movie movie
+outcome_of command (Err bad) = Refusal (record bad { command = command })
+
+-- of the option's file, where one of its name is held
+abbrev pub input_outcome : ℕ → Option (List ℕ) → Outcome
+input_outcome command None = Absent command
+input_outcome command (Some bytes) = outcome_of command (input_movie bytes)
+
+-- what the job comes to. A movie of a stream has a track, and its `moov` is far shorter than 268,435,456 bytes:
+-- a movie is refused for neither
+abbrev pub outcome : JobRecord → List HeldFile → Outcome
+outcome job files = input_outcome job.command (bytes_under job.input files)
+
+-- it is a movie, of which this holds
+abbrev pub IsMovieAnd : Outcome → (MovieRecord → Type 0) → Type 0
+IsMovieAnd (Movie movie) P = P movie
+IsMovieAnd (Refusal bad) P = ⊥
+IsMovieAnd (Absent command) P = ⊥

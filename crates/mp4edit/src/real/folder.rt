@@ -1,0 +1,180 @@
+// The files of the working folder, and of paths.
+ghost use Rattle.std.specs.Prelude.{◌≡◌, [], None};
+
+use mp_ports::{Folder, OpenFail, PortFault, raise};
+use std::alloc::Global;
+use std::fs::OpenFile;
+use std::io::{ErrorKind, Read, Seek, SeekFrom, Write};
+use std::marker::Model;
+use std::rt::Files;
+use std::{fs, io};
+
+#[derive(Drop)]
+struct RealFile<F: Drop> {
+    name: String,
+    size: u64,
+    file: F,
+}
+
+impl<F: Drop> Model for RealFile<F> {
+    ghost use Rattle.std.specs.Prelude.{string_bytes, None};
+    ghost use Rattle.mp_ports.specs.Folder.{OpenedFile};
+
+    ghost Value = { OpenedFile };
+
+    ghost view = { λ f. record { name = string_bytes f.name; size = f.size; bytes = None } };
+}
+
+#[derive(Drop)]
+struct RealOutput<F: Drop> {
+    name: String,
+    finished: bool,
+    file: F,
+}
+
+impl<F: Drop> Model for RealOutput<F> {
+    ghost use Rattle.std.specs.Prelude.{string_bytes};
+    ghost use Rattle.mp_ports.specs.Folder.{Output};
+
+    ghost Value = { Output };
+
+    ghost view = { λ o. record { name = string_bytes o.name; finished = o.finished } };
+}
+
+/// The files of the system, by their paths. What it holds, reads and writes it doesn't tell.
+#[derive(Drop)]
+pub struct RealFolder<'a, R: Files> {
+    rt: &'a R,
+    alloc: Global,
+    files: Vec<RealFile<R::File>>,
+    output: Option<RealOutput<R::File>>,
+    read_faults: u64,
+    write_faults: u64,
+    misses: u64,
+}
+
+impl<'a, R: Files> RealFolder<'a, R> {
+    /// A folder with nothing opened, nothing created and no faults. It takes no memory.
+    pub fn new(rt: &'a R, alloc: Global) -> Self
+        ensures files { result.files.items ≡ [] }
+        ensures output { result.output ≡ None }
+        ensures faults { (result.read_faults ≡ 0) × (result.write_faults ≡ 0) × (result.misses ≡ 0) }
+    {
+        RealFolder {
+            rt,
+            alloc,
+            files: Vec::new(alloc),
+            output: None,
+            read_faults: 0,
+            write_faults: 0,
+            misses: 0,
+        }
+    }
+}
+
+// The file of that path, and its size in bytes.
+fn open_sized<R: Files>(rt: &R, name: &str) -> io::Result<(R::File, u64)> {
+    let file = fs::open(rt, name)?;
+    let size = file.metadata()?.len();
+    Ok((file, size))
+}
+
+// Fills `into` from that place on; the end of the file before it is full is an error.
+fn read_exact_from<F: Read + Seek>(file: &mut F, from: u64, into: &mut [u8]) -> io::Result<()> {
+    file.seek(SeekFrom::Start(from))?;
+    file.read_exact(into)
+}
+
+impl<R: Files> Folder for RealFolder<'_, R> {
+    ghost state = { λ s. record {
+      held = None;
+      opened = s.files.items;
+      output = s.output;
+      written = None;
+      read_faults = s.read_faults;
+      write_faults = s.write_faults;
+      misses = s.misses;
+    } };
+
+    fn open(&mut self, name: &str) -> Result<u32, OpenFail> {
+        let Ok(kept) = String::from_str(self.alloc, name) else {
+            return Err(OpenFail::NoMemory);
+        };
+        match open_sized(self.rt, name) {
+            Ok((file, size)) => {
+                let number = self.files.len() as u32;
+                let file = RealFile {
+                    name: kept,
+                    size,
+                    file,
+                };
+                if self.files.push(file).is_err() {
+                    return Err(OpenFail::NoMemory);
+                }
+                Ok(number)
+            }
+            Err(e) if e.kind() == ErrorKind::NotFound => {
+                raise(&mut self.misses);
+                Err(OpenFail::Missing)
+            }
+            Err(_) => {
+                raise(&mut self.read_faults);
+                Err(OpenFail::Failed)
+            }
+        }
+    }
+
+    fn size(&self, file: u32) -> u64 {
+        let opened = &self.files[file as usize];
+        opened.size
+    }
+
+    fn read_at(&mut self, file: u32, from: u64, into: &mut [u8]) -> Result<(), PortFault> {
+        let opened = &mut self.files[file as usize];
+        if read_exact_from(&mut opened.file, from, into).is_err() {
+            raise(&mut self.read_faults);
+            return Err(PortFault);
+        }
+        Ok(())
+    }
+
+    fn create(&mut self, name: String) -> Result<(), PortFault> {
+        match fs::create(self.rt, name.as_str()) {
+            Ok(file) => {
+                self.output = Some(RealOutput {
+                    name,
+                    finished: false,
+                    file,
+                });
+                Ok(())
+            }
+            Err(_) => {
+                raise(&mut self.write_faults);
+                Err(PortFault)
+            }
+        }
+    }
+
+    fn append(&mut self, piece: &[u8]) -> Result<(), PortFault> {
+        let Some(output) = &mut self.output else {
+            return Err(PortFault);
+        };
+        if output.file.write_all(piece).is_err() {
+            raise(&mut self.write_faults);
+            return Err(PortFault);
+        }
+        Ok(())
+    }
+
+    fn finish(&mut self) -> Result<(), PortFault> {
+        let Some(output) = &mut self.output else {
+            return Err(PortFault);
+        };
+        if output.file.flush().is_err() {
+            raise(&mut self.write_faults);
+            return Err(PortFault);
+        }
+        output.finished = true;
+        Ok(())
+    }
+}

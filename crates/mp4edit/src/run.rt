@@ -1,0 +1,87 @@
+// A run: from the words of the line to the last byte written.
+ghost use Rattle.std.specs.Prelude.{◌≡◌, ◌<◌, ◌^◌, [], None, length, map, string_bytes, IfSome, IfOk, IfErr};
+ghost use Rattle.mp4edit.specs.Words.{job};
+ghost use Rattle.mp4edit.specs.Outcome.{outcome};
+ghost use Rattle.mp4edit.specs.Run.{HasCauses, RaisesMisses, AnswersWords, IsUntouched, AreInputs, Leaves, SaysNothing, Tells, SaysLine, Completes};
+
+use crate::ending::Ending;
+use crate::input::{InputFail, read_input};
+use crate::line::{sample_count, wrote_line};
+use crate::output::write_file;
+use crate::words::{WordFail, read_words};
+use mp_layout::plan_file;
+use mp_ports::{Folder, Report};
+use std::alloc::Global;
+
+/// Does all that a line of words asks for, over a folder and a report, and says how it ended.
+pub fn mp4edit<F: Folder, R: Report>(
+    alloc: Global,
+    words: &[String],
+    folder: &mut F,
+    report: &mut R,
+) -> Ending
+    requires opened { (F.state folder.old).opened ≡ [] }
+    requires output { (F.state folder.old).output ≡ None }
+    requires words { length words.now < 2 ^ 31 }
+
+    // Each ending has its cause.
+    ensures causes { HasCauses result (F.state folder.old) (F.state folder.new)
+        (R.state report.old) (R.state report.new) }
+    ensures misses { RaisesMisses result (F.state folder.old) (F.state folder.new) }
+    ensures words { AnswersWords result (job (map string_bytes words.now)) }
+
+    // What it opens, creates and says.
+    ensures untouched { IfErr (job (map string_bytes words.now)) (λ _.
+        IsUntouched (F.state folder.old) (F.state folder.new) (R.state report.old) (R.state report.new)) }
+    ensures inputs { IfOk (job (map string_bytes words.now)) (λ job.
+        AreInputs job.input (F.state folder.old).held (F.state folder.new).opened) }
+    ensures left { IfOk (job (map string_bytes words.now)) (λ job.
+        Leaves result job.out (F.state folder.old) (F.state folder.new)) }
+    ensures quiet { SaysNothing result (R.state report.old) (R.state report.new) }
+
+    // Where the folder tells what it holds, the outcome of the job decides what is written and said:
+    // at `Done` the whole file, which presents the movie.
+    ensures told { IfOk (job (map string_bytes words.now)) (λ job. IfSome (F.state folder.old).held (λ files.
+        Tells result (outcome job files) job.window (F.state folder.new))) }
+    ensures said { IfOk (job (map string_bytes words.now)) (λ job. IfSome (F.state folder.old).held (λ files.
+        SaysLine result (outcome job files) job (R.state report.old) (R.state report.new))) }
+    ensures complete { IfOk (job (map string_bytes words.now)) (λ job. IfSome (F.state folder.old).held (λ files.
+        Completes result (outcome job files) (F.state folder.old) (F.state folder.new)
+        (R.state report.old) (R.state report.new))) }
+{
+    let job = match read_words(alloc, words) {
+        Ok(job) => job,
+        Err(WordFail::Words { word, kind }) => return Ending::Words { word, kind },
+        Err(WordFail::NoMemory) => return Ending::NoMemory,
+    };
+    let movie = match read_input(alloc, folder, &job.input, job.command) {
+        Ok(movie) => movie,
+        Err(InputFail::Missing) => {
+            return Ending::NoFile {
+                command: job.command,
+            };
+        }
+        Err(InputFail::Bad(bad)) => return Ending::Refused(bad),
+        Err(InputFail::ReadFault) => return Ending::ReadFault,
+        Err(InputFail::NoMemory) => return Ending::NoMemory,
+    };
+    let Ok(plan) = plan_file(alloc, &movie) else {
+        return Ending::NoMemory;
+    };
+    let Ok(line) = wrote_line(
+        alloc,
+        &job.out,
+        movie.tracks.len(),
+        sample_count(&movie),
+        plan.length,
+    ) else {
+        return Ending::NoMemory;
+    };
+    if write_file(folder, job.out, &plan, &movie).is_err() {
+        return Ending::WriteFault;
+    }
+    if report.say(&line).is_err() {
+        return Ending::ReportFault;
+    }
+    Ending::Done
+}

@@ -1,0 +1,425 @@
+// Whole runs over a folder and a report in memory, and the real ones.
+ghost use Rattle.std.specs.Prelude.{◌≡◌, ◌<◌, [], None, IfOk, vec_len};
+
+use crate::real::{RealFolder, RealReport};
+use crate::{Ending, WordKind, mp4edit};
+use mp_ports::{Bad, Code, Folder, MemFile, MemFolder, MemReport, OpenFail, Report};
+use std::alloc::Global;
+use std::fs;
+use std::test::Fail;
+
+// An ADTS frame of nine bytes (ISO/IEC 14496-3, 1.A.2): AAC LC, 44100 Hz, two channels, the payload `AA BB`.
+const FRAME: &[u8] = b"\xff\xf1\x50\x80\x01\x3f\xfc\xaa\xbb";
+
+// The file of that frame, box by box, from the tables of ISO/IEC 14496-12.
+const ONE_FRAME_FILE: [(&str, &[u8]); 19] = [
+    (
+        "ftyp",
+        b"\x00\x00\x00\x1cftypisom\x00\x00\x00\x01\
+          isomiso4mp42",
+    ),
+    ("moov", b"\x00\x00\x02\x1cmoov"),
+    (
+        "mvhd",
+        b"\x00\x00\x00\x6cmvhd\x00\x00\x00\x00\x00\x00\x00\x00\
+          \x00\x00\x00\x00\x00\x00\x03\xe8\x00\x00\x00\x18\x00\x01\x00\x00\
+          \x01\x00\x00\x00\x00\x00\x00\x00\x00\x00\x00\x00\x00\x01\x00\x00\
+          \x00\x00\x00\x00\x00\x00\x00\x00\x00\x00\x00\x00\x00\x01\x00\x00\
+          \x00\x00\x00\x00\x00\x00\x00\x00\x00\x00\x00\x00\x40\x00\x00\x00\
+          \x00\x00\x00\x00\x00\x00\x00\x00\x00\x00\x00\x00\x00\x00\x00\x00\
+          \x00\x00\x00\x00\x00\x00\x00\x00\x00\x00\x00\x02",
+    ),
+    ("trak", b"\x00\x00\x01\xa8trak"),
+    (
+        "tkhd",
+        b"\x00\x00\x00\x5ctkhd\x00\x00\x00\x03\x00\x00\x00\x00\
+          \x00\x00\x00\x00\x00\x00\x00\x01\x00\x00\x00\x00\x00\x00\x00\x18\
+          \x00\x00\x00\x00\x00\x00\x00\x00\x00\x00\x00\x00\x01\x00\x00\x00\
+          \x00\x01\x00\x00\x00\x00\x00\x00\x00\x00\x00\x00\x00\x00\x00\x00\
+          \x00\x01\x00\x00\x00\x00\x00\x00\x00\x00\x00\x00\x00\x00\x00\x00\
+          \x40\x00\x00\x00\x00\x00\x00\x00\x00\x00\x00\x00",
+    ),
+    ("mdia", b"\x00\x00\x01\x44mdia"),
+    (
+        "mdhd",
+        b"\x00\x00\x00\x20mdhd\x00\x00\x00\x00\x00\x00\x00\x00\
+          \x00\x00\x00\x00\x00\x00\xac\x44\x00\x00\x04\x00\x55\xc4\x00\x00",
+    ),
+    (
+        "hdlr",
+        b"\x00\x00\x00\x21hdlr\x00\x00\x00\x00\x00\x00\x00\x00\
+          soun\x00\x00\x00\x00\x00\x00\x00\x00\x00\x00\x00\x00\
+          \x00",
+    ),
+    ("minf", b"\x00\x00\x00\xfbminf"),
+    (
+        "smhd",
+        b"\x00\x00\x00\x10smhd\x00\x00\x00\x00\x00\x00\x00\x00",
+    ),
+    (
+        "dinf",
+        b"\x00\x00\x00\x24dinf\x00\x00\x00\x1cdref\
+          \x00\x00\x00\x00\x00\x00\x00\x01\x00\x00\x00\x0curl \
+          \x00\x00\x00\x01",
+    ),
+    ("stbl", b"\x00\x00\x00\xbfstbl"),
+    (
+        "stsd and mp4a",
+        b"\x00\x00\x00\x5bstsd\x00\x00\x00\x00\x00\x00\x00\x01\
+          \x00\x00\x00\x4bmp4a\x00\x00\x00\x00\x00\x00\x00\x01\
+          \x00\x00\x00\x00\x00\x00\x00\x00\x00\x02\x00\x10\x00\x00\x00\x00\
+          \xac\x44\x00\x00",
+    ),
+    (
+        "esds",
+        b"\x00\x00\x00\x27esds\x00\x00\x00\x00\x03\x19\x00\x00\
+          \x00\x04\x11\x40\x15\x00\x00\x00\x00\x00\x00\x00\x00\x00\x00\x00\
+          \x05\x02\x12\x10\x06\x01\x02",
+    ),
+    (
+        "stts",
+        b"\x00\x00\x00\x18stts\x00\x00\x00\x00\x00\x00\x00\x01\
+          \x00\x00\x00\x01\x00\x00\x04\x00",
+    ),
+    (
+        "stsc",
+        b"\x00\x00\x00\x1cstsc\x00\x00\x00\x00\x00\x00\x00\x01\
+          \x00\x00\x00\x01\x00\x00\x00\x01\x00\x00\x00\x01",
+    ),
+    (
+        "stsz",
+        b"\x00\x00\x00\x14stsz\x00\x00\x00\x00\x00\x00\x00\x02\
+          \x00\x00\x00\x01",
+    ),
+    (
+        "stco",
+        b"\x00\x00\x00\x14stco\x00\x00\x00\x00\x00\x00\x00\x01\
+          \x00\x00\x02\x40",
+    ),
+    ("mdat", b"\x00\x00\x00\x0amdat\xaa\xbb"),
+];
+
+// A folder that holds these bytes as `a.aac`, and whose calls of these numbers fail.
+fn folder(alloc: Global, bytes: Vec<u8>, failing: &[u64]) -> Result<MemFolder, Fail>
+    ensures opened { IfOk result (λ f. f.folder.opened ≡ []) }
+    ensures output { IfOk result (λ f. f.folder.output ≡ None) }
+{
+    let mut files = Vec::new(alloc);
+    files.push(MemFile {
+        name: String::from_str(alloc, "a.aac")?,
+        bytes,
+    })?;
+    Ok(MemFolder::new(alloc, files, failing.to_vec(alloc)?))
+}
+
+// The words of a line of fewer than ten.
+fn words(alloc: Global, texts: &[&str]) -> Result<Vec<String>, Fail>
+    ensures { IfOk result (λ w. vec_len w < 10) }
+{
+    let mut words = Vec::new(alloc);
+    for text in texts {
+        words.push(String::from_str(alloc, text)?)?;
+    }
+    if words.len() < 10 {
+        Ok(words)
+    } else {
+        Err(Fail::from("too many words"))
+    }
+}
+
+fn refused(code: Code, place: u64) -> Ending {
+    let bad = Bad::at(code, place);
+    Ending::Refused(Bad { command: 1, ..bad })
+}
+
+#[test]
+fn one_frame_is_written(rt: HostRuntime) -> Result<(), Fail> {
+    let alloc = rt.alloc();
+    let line = words(alloc, &["-add", "a.aac", "-out", "b.mp4"])?;
+    let mut files = folder(alloc, FRAME.to_vec(alloc)?, &[])?;
+    let mut report = MemReport::new(alloc, Vec::new(alloc));
+    assert_eq!(rt;
+        mp4edit(alloc, &line, &mut files, &mut report),
+        Ending::Done
+    );
+    let mut rest = files.written();
+    for (name, bytes) in ONE_FRAME_FILE {
+        let after = rest.strip_prefix(bytes);
+        assert!(rt; after.is_some(), "{name}");
+        rest = after.unwrap_or(b"");
+    }
+    assert_eq!(rt; rest.len(), 0);
+    assert!(rt; files.finished());
+    assert_eq!(rt;
+        report.said(),
+        b"wrote b.mp4 tracks 1 samples 1 bytes 578\n".as_slice()
+    );
+    Ok(())
+}
+
+#[test]
+fn streams_are_written(rt: HostRuntime) -> Result<(), Fail> {
+    let alloc = rt.alloc();
+    let line = words(alloc, &["-add", "a.aac", "-out", "b.mp4"])?;
+    let rows: [(&[u8], usize, &[u8]); 3] = [
+        // two equal frames: each is stored
+        (
+            b"\xff\xf1\x50\x80\x01\x3f\xfc\xaa\xbb\xff\xf1\x50\x80\x01\x3f\xfc\xaa\xbb",
+            580,
+            b"\x00\x00\x00\x0cmdat\xaa\xbb\xaa\xbb",
+        ),
+        // two frames of different sizes
+        (
+            b"\xff\xf1\x50\x80\x01\x3f\xfc\xaa\xbb\xff\xf1\x50\x80\x01\x5f\xfc\xaa\xbb\xcc",
+            589,
+            b"\x00\x00\x00\x0dmdat\xaa\xbb\xaa\xbb\xcc",
+        ),
+        // a check word of two bytes
+        (
+            b"\xff\xf0\x50\x80\x01\x7f\xfc\x12\x34\xaa\xbb",
+            578,
+            b"\x00\x00\x00\x0amdat\xaa\xbb",
+        ),
+    ];
+    for (stream, length, end) in rows {
+        let mut files = folder(alloc, stream.to_vec(alloc)?, &[])?;
+        let mut report = MemReport::new(alloc, Vec::new(alloc));
+        let ending = mp4edit(alloc, &line, &mut files, &mut report);
+        assert_eq!(rt; ending, Ending::Done, "{stream:?}");
+        assert_eq!(rt; files.written().len(), length, "{stream:?}");
+        assert!(rt; files.written().ends_with(end), "{stream:?}");
+    }
+    Ok(())
+}
+
+#[test]
+fn what_is_refused_is_not_written(rt: HostRuntime) -> Result<(), Fail> {
+    let alloc = rt.alloc();
+    let job = &["-add", "a.aac", "-out", "b.mp4"];
+    let not_yet = Ending::Words {
+        word: 0,
+        kind: WordKind::NotYet,
+    };
+    let rows: [(&[&str], &[u8], Ending); 19] = [
+        (job, b"", refused(Code::AdtsEmpty, 0)),
+        (
+            job,
+            b"\xfe\xf1\x50\x80\x01\x3f\xfc\xaa\xbb",
+            refused(Code::AdtsSync, 0),
+        ),
+        (
+            job,
+            b"\xff\xf3\x50\x80\x01\x3f\xfc\xaa\xbb",
+            refused(Code::AdtsLayer, 0),
+        ),
+        (
+            job,
+            b"\xff\xf1\x74\x80\x01\x3f\xfc\xaa\xbb",
+            refused(Code::AdtsRate, 0),
+        ),
+        (
+            job,
+            b"\xff\xf1\x50\x00\x01\x3f\xfc\xaa\xbb",
+            refused(Code::AdtsChannels, 0),
+        ),
+        (
+            job,
+            b"\xff\xf1\x50\x80\x01\x3f\xfd\xaa\xbb",
+            refused(Code::AdtsBlocks, 0),
+        ),
+        (
+            job,
+            b"\xff\xf1\x50\x80\x00\xdf\xfc\xaa\xbb",
+            refused(Code::AdtsCut, 0),
+        ),
+        (
+            job,
+            b"\xff\xf1\x50\x80\x01\x3f\xfc\xaa",
+            refused(Code::AdtsCut, 0),
+        ),
+        (
+            job,
+            b"\xff\xf1\x50\x80\x01\x3f\xfc\xaa\xbb\xff\xf1\x4c\x80\x01\x3f\xfc\xaa\xbb",
+            refused(Code::AdtsChange, 9),
+        ),
+        (
+            job,
+            b"\xff\xf1\x50\x80\x01\x3f\xfc\xaa\xbb\xff",
+            refused(Code::AdtsCut, 9),
+        ),
+        (
+            &["-add", "zz.aac", "-out", "b.mp4"],
+            FRAME,
+            Ending::NoFile { command: 1 },
+        ),
+        (&[], FRAME, not_yet),
+        (&["-add", "a.aac"], FRAME, not_yet),
+        (&["-out", "b.mp4", "-add", "a.aac"], FRAME, not_yet),
+        (&["-add", "a.aac", "-out", "b.mp3"], FRAME, not_yet),
+        (&["-add", "a.mp3", "-out", "b.mp4"], FRAME, not_yet),
+        (&["-ADD", "a.aac", "-out", "b.mp4"], FRAME, not_yet),
+        (&["-add", "a.aac", "-out", "b.mp4", ""], FRAME, not_yet),
+        (&["-add", "aac", "-out", "b.mp4"], FRAME, not_yet),
+    ];
+    for (texts, bytes, ending) in rows {
+        let line = words(alloc, texts)?;
+        let mut files = folder(alloc, bytes.to_vec(alloc)?, &[])?;
+        let mut report = MemReport::new(alloc, Vec::new(alloc));
+        assert_eq!(rt;
+            mp4edit(alloc, &line, &mut files, &mut report),
+            ending,
+            "{texts:?}"
+        );
+        assert!(rt; !files.created(), "{texts:?}");
+        assert_eq!(rt; report.said().len(), 0, "{texts:?}");
+    }
+    Ok(())
+}
+
+// A file of so many zeros.
+fn zeros(alloc: Global, len: usize) -> Result<Vec<u8>, Fail> {
+    Ok(vec![in alloc; 0u8; len]?)
+}
+
+#[test]
+fn an_input_of_more_than_64_mebibytes_is_refused(rt: HostRuntime) -> Result<(), Fail> {
+    let alloc = rt.alloc();
+    let line = words(alloc, &["-add", "a.aac", "-out", "b.mp4"])?;
+    let mut files = folder(alloc, zeros(alloc, 67_108_865)?, &[])?;
+    let mut report = MemReport::new(alloc, Vec::new(alloc));
+    let ending = mp4edit(alloc, &line, &mut files, &mut report);
+    assert_eq!(rt; ending, refused(Code::InputLimit, 0));
+    Ok(())
+}
+
+#[test]
+fn names_are_read_in_either_case(rt: HostRuntime) -> Result<(), Fail> {
+    let alloc = rt.alloc();
+    for (input, out) in [("a.AaC", "b.M4a"), ("a.ADTS", "b.m4V"), (".aac", ".MP4")] {
+        let line = words(alloc, &["-add", input, "-out", out])?;
+        let mut files = folder(alloc, FRAME.to_vec(alloc)?, &[])?;
+        let mut report = MemReport::new(alloc, Vec::new(alloc));
+        let ending = mp4edit(alloc, &line, &mut files, &mut report);
+        assert_eq!(rt; ending, Ending::NoFile { command: 1 }, "{input}");
+    }
+    Ok(())
+}
+
+#[test]
+fn each_call_of_the_folder_fails_in_turn(rt: HostRuntime) -> Result<(), Fail> {
+    let alloc = rt.alloc();
+    let line = words(alloc, &["-add", "a.aac", "-out", "b.mp4"])?;
+    let mut whole = Vec::new(alloc);
+    for (_, bytes) in ONE_FRAME_FILE {
+        whole.extend_from_slice(bytes)?;
+    }
+    // The calls are open, read, create, the front of the file, its sample, and finish.
+    let rows = [
+        (1, Ending::ReadFault, 0),
+        (2, Ending::ReadFault, 0),
+        (3, Ending::WriteFault, 0),
+        (4, Ending::WriteFault, 288),
+        (5, Ending::WriteFault, 577),
+        (6, Ending::WriteFault, 578),
+        (7, Ending::Done, 578),
+    ];
+    for (call, ending, written) in rows {
+        let mut files = folder(alloc, FRAME.to_vec(alloc)?, &[call])?;
+        files.reserve(578).map_err(|_| "no memory")?;
+        let mut report = MemReport::new(alloc, Vec::new(alloc));
+        report.reserve(64).map_err(|_| "no memory")?;
+        let got = mp4edit(alloc, &line, &mut files, &mut report);
+        assert_eq!(rt; got, ending, "call {call}");
+        assert_eq!(rt; files.written().len(), written, "call {call}");
+        assert!(rt; whole.starts_with(files.written()), "call {call}");
+        assert_eq!(rt; files.created(), call > 3, "call {call}");
+        assert_eq!(rt; files.finished(), call > 6, "call {call}");
+    }
+    Ok(())
+}
+
+#[test]
+fn a_failing_report_leaves_the_file_whole(rt: HostRuntime) -> Result<(), Fail> {
+    let alloc = rt.alloc();
+    let line = words(alloc, &["-add", "a.aac", "-out", "b.mp4"])?;
+    let mut files = folder(alloc, FRAME.to_vec(alloc)?, &[])?;
+    let mut report = MemReport::new(alloc, [1].to_vec(alloc)?);
+    let ending = mp4edit(alloc, &line, &mut files, &mut report);
+    assert_eq!(rt; ending, Ending::ReportFault);
+    assert_eq!(rt; files.written().len(), 578);
+    assert!(rt; files.finished());
+    assert_eq!(rt; report.said(), b"wrote b.mp4 tracks 1".as_slice());
+    Ok(())
+}
+
+#[test]
+fn endings_have_their_statuses_and_texts(rt: HostRuntime) -> Result<(), Fail> {
+    let alloc = rt.alloc();
+    let bad = Bad {
+        code: Code::AdtsCut,
+        command: 1,
+        file: 0,
+        place: 0,
+    };
+    let rows = [
+        (
+            Ending::Refused(bad),
+            2,
+            "refused: 41 AdtsCut, command 1, file 0, place 0",
+        ),
+        (Ending::NoFile { command: 3 }, 3, "command 3: no such file"),
+        (Ending::ReadFault, 4, "read failed"),
+        (Ending::WriteFault, 5, "write failed"),
+        (Ending::ReportFault, 6, "report failed"),
+        (Ending::NoMemory, 7, "out of memory"),
+    ];
+    assert_eq!(rt; Ending::Done.status(), 0);
+    for (ending, status, text) in rows {
+        assert_eq!(rt; ending.status(), status, "{text}");
+        assert_eq!(rt; ending.to_string(alloc)?.as_str(), text);
+    }
+    let kinds = [
+        (WordKind::Empty, "word 4: no words"),
+        (WordKind::Unknown, "word 4: unknown word"),
+        (WordKind::Mixed, "word 4: not together"),
+        (WordKind::OutTwice, "word 4: -out twice"),
+        (WordKind::Missing, "word 4: argument missing"),
+        (WordKind::Argument, "word 4: argument refused"),
+        (WordKind::NoOut, "word 4: no -out"),
+        (WordKind::SameName, "word 4: output is an input"),
+        (WordKind::NotYet, "word 4: not built yet"),
+    ];
+    for (kind, text) in kinds {
+        let ending = Ending::Words { word: 4, kind };
+        assert_eq!(rt; ending.status(), 1, "{text}");
+        assert_eq!(rt; ending.to_string(alloc)?.as_str(), text);
+    }
+    Ok(())
+}
+
+#[test]
+fn the_real_folder_reads_and_writes(rt: HostRuntime) -> Result<(), Fail> {
+    let alloc = rt.alloc();
+    let name = "mp4edit-test-folder.bin";
+    let mut folder = RealFolder::new(&rt, alloc);
+    assert_eq!(rt; folder.open(name), Err(OpenFail::Missing));
+    folder.create(String::from_str(alloc, name)?)?;
+    folder.append(b"abc")?;
+    folder.append(b"de")?;
+    folder.finish()?;
+    let file = folder.open(name)?;
+    let size = folder.size(file);
+    assert_eq!(rt; size, 5);
+    let mut middle = [0u8; 3];
+    folder.read_at(file, 1, &mut middle)?;
+    assert_eq!(rt; middle, *b"bcd");
+    fs::remove_file(&rt, name)?;
+    Ok(())
+}
+
+#[test]
+fn the_real_report_is_standard_output(rt: HostRuntime) -> Result<(), Fail> {
+    let mut report = RealReport::new(&rt);
+    report.say(b"said\n")?;
+    Ok(())
+}
