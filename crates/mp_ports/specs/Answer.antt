@@ -12,6 +12,16 @@ infixl 10 ◌>>=◌
 abbrev pub bad_at : Code → ℕ → Bad
 bad_at code place = record { code = code; command = 0; file = 0; place = place }
 
+-- an answer, its fault at this place
+abbrev pub placed : {A : Type 0} → ℕ → Result A Code → Result A Bad
+placed place (Ok value) = Ok value
+placed place (Err code) = Err (bad_at code place)
+
+-- a fault, at its place
+abbrev pub fault_at : ℕ → Option Code → Option Bad
+fault_at place None = None
+fault_at place (Some code) = Some (bad_at code place)
+
 -- the code of the first test that holds
 abbrev pub first_code : List (Bool × Code) → Option Code
 first_code [] = None

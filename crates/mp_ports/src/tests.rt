@@ -1,3 +1,4 @@
+// Each call of the objects in memory, and what it leaves: in turn whole, failing, and out of room.
 ghost use Rattle.std.specs.Prelude.{◌≡◌, [], None, Ok, Err, IfOk};
 
 use crate::{
