@@ -4,10 +4,10 @@ use Rattle.std.proofs.lemmas.Bool.{cases_eq, ne_eqb, eq-eqb}
 use Rattle.std.proofs.lemmas.List.{length-append, length-drop, drop-drop, drop_all, get_or-drop}
 use Rattle.mp_ports.specs.declared.code.Code.{Code}
 use Rattle.mp_ports.specs.declared.fault.Bad.{Bad}
-use Rattle.mp_ports.specs.Answer.{bad_at, ◌>>=◌}
+use Rattle.mp_ports.specs.Answer.{bad_at, ◌>>=◌, placed}
 use Rattle.mp_boxes.specs.declared.head.TopHead.{TopHead}
 use Rattle.mp_boxes.specs.declared.head.BoxHead.{BoxHead}
-use Rattle.mp_boxes.specs.Head.{head_fault, head_at, placed, box_head, next_head}
+use Rattle.mp_boxes.specs.Head.{head_fault, head_at, box_head, next_head}
 use Rattle.mp_boxes.specs.Boxes.{IsBytes, Box, IsCut, IsFirstFault, front_box, boxes}
 use Rattle.mp_boxes.proofs.HeadsWereSpelled.{head_at-spelled}
 use Rattle.mp_boxes.proofs.CutInOneWay.{rest_within, cut-more, walk-cut}

@@ -3,10 +3,10 @@ use Rattle.std.proofs.Common.{◌≡◌, ℕ, ◌+◌, ◌-◌, ◌≤◌, Bool,
 use Rattle.std.proofs.lemmas.Bool.{cases_lt, ne_eqb}
 use Rattle.std.proofs.lemmas.List.{take_all, length-drop}
 use Rattle.mp_ports.specs.declared.code.Code.{Code}
-use Rattle.mp_ports.specs.Answer.{◌>>=◌}
+use Rattle.mp_ports.specs.Answer.{◌>>=◌, placed}
 use Rattle.mp_boxes.specs.declared.head.TopHead.{TopHead}
 use Rattle.mp_boxes.proofs.NumbersAreRead.{in_front, u32_at-same, kind_at-same, u64_at-same}
-use Rattle.mp_boxes.specs.Head.{head_from, head_at, placed, box_head, next_head}
+use Rattle.mp_boxes.specs.Head.{head_from, head_at, box_head, next_head}
 
 head_from-take : (top : Bool) (n : ℕ) (xs : List ℕ) → n ≡ min (length xs) 24 → head_from top (take n xs) (length xs) ≡ head_at top xs
 head_from-take top n xs e = elim (cases_lt (length xs) 24) [

@@ -2,10 +2,10 @@
 use Rattle.std.specs.Prelude.{◌≡◌, ℕ, zero, suc, ◌+◌, ◌-◌, ◌<◌, Bool, List, [], ◌∷◌, ◌++◌, length, slice_index, take, drop, Some, Result, Ok}
 use Rattle.mp_ports.specs.declared.code.Code.{Code}
 use Rattle.mp_ports.specs.declared.fault.Bad.{Bad}
-use Rattle.mp_ports.specs.Answer.{bad_at, ◌>>=◌}
+use Rattle.mp_ports.specs.Answer.{bad_at, ◌>>=◌, placed}
 use Rattle.mp_boxes.specs.declared.head.TopHead.{TopHead}
 use Rattle.mp_boxes.specs.Header.{IsHeader}
-use Rattle.mp_boxes.specs.Head.{head_fault, head_at, placed}
+use Rattle.mp_boxes.specs.Head.{head_fault, head_at}
 
 -- each is a byte
 abbrev pub IsBytes : List ℕ → Type 0

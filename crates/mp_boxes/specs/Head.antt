@@ -1,10 +1,10 @@
 -- The head of a box as it is read, and the faults that it can have, in order (ISO/IEC 14496-12, 4.2).
-use Rattle.std.specs.Prelude.{◌≡◌, ℕ, ◌+◌, ◌≤◌, Bool, false, List, [], ◌∷◌, length, drop, Option, Some, None, Result, Ok, Err, codes, nat_lt, ◌==◌, if◌then◌else◌, not, ◌&&◌}
+use Rattle.std.specs.Prelude.{◌≡◌, ℕ, ◌+◌, ◌≤◌, Bool, false, List, [], ◌∷◌, length, drop, Option, Some, None, Result, Ok, codes, nat_lt, ◌==◌, if◌then◌else◌, not, ◌&&◌}
 use Rattle.std.specs.Str.{bytes_eq}
 use Rattle.mp_ports.specs.declared.code.Code.{Code}
 use Rattle.mp_ports.specs.declared.code.Code.TheVariants.{BoxCut, BoxSize}
 use Rattle.mp_ports.specs.declared.fault.Bad.{Bad}
-use Rattle.mp_ports.specs.Answer.{bad_at, first_code, unless, ◌>>=◌}
+use Rattle.mp_ports.specs.Answer.{first_code, placed, unless, ◌>>=◌}
 use Rattle.mp_boxes.specs.declared.head.TopHead.{TopHead}
 use Rattle.mp_boxes.specs.declared.head.BoxHead.{BoxHead}
 use Rattle.mp_boxes.specs.Number.{u32_at, u64_at, kind_at}
@@ -36,11 +36,6 @@ head_from top front rest =
 -- the head at the front of all that is left
 abbrev pub head_at : Bool → List ℕ → Result TopHead Code
 head_at top text = head_from top text (length text)
-
--- the fault of a head, at its place
-abbrev pub placed : {A : Type 0} → ℕ → Result A Code → Result A Bad
-placed place (Ok head) = Ok head
-placed place (Err code) = Err (bad_at code place)
 
 -- the box of that head, which begins at `at`
 abbrev pub box_head : ℕ → TopHead → BoxHead

@@ -6,3 +6,4 @@ pub mod Child
 pub mod Field
 pub mod Front
 pub mod Parts
+pub mod FullBox

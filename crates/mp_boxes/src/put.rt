@@ -7,6 +7,7 @@ ghost use Rattle.mp_boxes.specs.Field.{field_bytes, body_bytes, box_bytes, leaf}
 ghost use Rattle.mp_boxes.specs.Front.{IsFilled};
 
 use crate::field::Field;
+use crate::number::{u16_bytes, u32_bytes, u64_bytes};
 
 fn field_len(field: Field<'_>) -> usize
     ensures { result ≡ length (field_bytes field.entry) }
@@ -19,16 +20,24 @@ fn field_len(field: Field<'_>) -> usize
     }
 }
 
+/// The length in bytes of these fields.
+pub(crate) fn fields_len(fields: &[Field<'_>]) -> usize
+    requires { length (body_bytes fields.now) < 2 ^ 63 }
+    ensures { result ≡ length (body_bytes fields.now) }
+{
+    let mut len = 0;
+    for &field in fields {
+        len += field_len(field);
+    }
+    len
+}
+
 /// The length in bytes of the box of these fields, header included.
 pub fn box_len(fields: &[Field<'_>]) -> usize
     requires { 8 + length (body_bytes fields.now) < 2 ^ 32 }
     ensures { result ≡ 8 + length (body_bytes fields.now) }
 {
-    let mut len = 8;
-    for &field in fields {
-        len += field_len(field);
-    }
-    len
+    8 + fields_len(fields)
 }
 
 // Writes the bytes at `at`, and answers where they end.
@@ -48,9 +57,9 @@ fn put_field(out: &mut [u8], at: usize, field: Field<'_>) -> usize
     ensures filled { (base text : List ℕ) → IsFilled base out.old at text → IsFilled base out.new result (text ++ field_bytes field.entry) }
 {
     match field {
-        Field::U16(n) => put(out, at, &n.to_be_bytes()),
-        Field::U32(n) => put(out, at, &n.to_be_bytes()),
-        Field::U64(n) => put(out, at, &n.to_be_bytes()),
+        Field::U16(n) => put(out, at, &u16_bytes(n)),
+        Field::U32(n) => put(out, at, &u32_bytes(n)),
+        Field::U64(n) => put(out, at, &u64_bytes(n)),
         Field::Bytes(bytes) => put(out, at, bytes),
     }
 }
@@ -76,7 +85,7 @@ pub fn put_box(out: &mut [u8], kind: [u8; 4], fields: &[Field<'_>]) -> usize
     ensures { IsFilled out.old out.new result (box_bytes (leaf kind fields.now)) }
 {
     let len = box_len(fields) as u32;
-    let at = put(out, 0, &len.to_be_bytes());
+    let at = put(out, 0, &u32_bytes(len));
     let at = put(out, at, &kind);
     put_fields(out, at, fields)
 }
@@ -92,13 +101,13 @@ pub fn put_head(out: &mut [u8], kind: [u8; 4], len: u64) -> usize
 {
     match u32::try_from(len) {
         Ok(len) => {
-            let at = put(out, 0, &len.to_be_bytes());
+            let at = put(out, 0, &u32_bytes(len));
             put(out, at, &kind)
         }
         Err(_) => {
-            let at = put(out, 0, &1u32.to_be_bytes());
+            let at = put(out, 0, &u32_bytes(1));
             let at = put(out, at, &kind);
-            put(out, at, &len.to_be_bytes())
+            put(out, at, &u64_bytes(len))
         }
     }
 }

@@ -1,17 +1,22 @@
-//! Tables of heads, of containers and of headers, each computed by hand from ISO/IEC 14496-12, 4.2.
+//! Tables of heads, of containers, of headers and of full boxes, each computed by hand from
+//! ISO/IEC 14496-12, 4.2.
 
-ghost use Rattle.std.specs.Prelude.{◌≡◌, ◌+◌, ◌<◌, ◌≤◌, ◌^◌, length};
+ghost use Rattle.std.specs.Prelude.{◌<◌, ◌^◌, length};
 
-use crate::{Field, Span, at_most_one, check_boxes, head_of, next_box, one, put_box, put_head};
+use crate::{
+    FIRST_FIELD, FIRST_ROW, Field, Span, append_fields, at_most_one, check_boxes, check_full_box,
+    flags, head_of, next_box, one, put_box, put_head, row_count, u16_bytes, u32_bytes, u64_bytes,
+    version,
+};
 use mp_ports::{Bad, Code};
 use std::test;
 
 // The first bytes of a box: a size, a type, 64 bits more, and zeros.
 fn front_of(size: u32, kind: &[u8; 4], wide: u64) -> [u8; 24] {
     let mut front = [0; 24];
-    front[..4].copy_from_slice(&size.to_be_bytes());
+    front[..4].copy_from_slice(&u32_bytes(size));
     front[4..8].copy_from_slice(kind);
-    front[8..16].copy_from_slice(&wide.to_be_bytes());
+    front[8..16].copy_from_slice(&u64_bytes(wide));
     front
 }
 
@@ -219,4 +224,119 @@ fn written_boxes(rt: HostRuntime) -> Result<(), test::Fail> {
         b"\0\0\0\x10url \0\0\0\x01\x01\x02ab\xEE".as_slice()
     );
     Ok(())
+}
+
+#[test]
+fn bytes_of_numbers(rt: HostRuntime) {
+    assert_eq!(rt; u16_bytes(0xFE01), [0xFE, 1]);
+    assert_eq!(rt; u32_bytes(0xFE01_0203), [0xFE, 1, 2, 3]);
+    assert_eq!(rt;
+        u64_bytes(0xFE01_0203_0405_0607),
+        [0xFE, 1, 2, 3, 4, 5, 6, 7]
+    );
+}
+
+#[test]
+fn appended_fields(rt: HostRuntime) -> Result<(), test::Fail> {
+    let mut out = Vec::from_slice(rt.alloc(), b"ab")?;
+    append_fields(&mut out, &[])?;
+    assert_eq!(rt; out.as_slice(), b"ab".as_slice());
+    let fields = [
+        Field::version_and_flags(true, 0x0A_0B0C),
+        Field::U16(0x0102),
+        Field::U32(0x0304_0506),
+        Field::U64(0x0708_090A_0B0C_0D0E),
+        Field::time(false, 15),
+        Field::time(true, 16),
+        Field::Bytes(b"cd"),
+    ];
+    append_fields(&mut out, &fields)?;
+    assert_eq!(rt;
+        out.as_slice(),
+        b"ab\x01\x0A\x0B\x0C\x01\x02\x03\x04\x05\x06\x07\x08\x09\x0A\x0B\x0C\x0D\x0E\0\0\0\x0F\0\0\0\0\0\0\0\x10cd".as_slice()
+    );
+    Ok(())
+}
+
+#[test]
+fn versions_and_flags(rt: HostRuntime) {
+    // the first byte, and the three behind it
+    let rows: [(&[u8; FIRST_FIELD], u32, u32); 4] = [
+        (b"\0\0\0\0", 0, 0),
+        (b"\x01\0\0\x07", 1, 7),
+        (b"\xFE\x01\x02\x03", 254, 66051),
+        (b"\0\xFF\xFF\xFF", 0, 16_777_215),
+    ];
+    for (body, wanted, bits) in rows {
+        assert_eq!(rt; version(body), wanted);
+        assert_eq!(rt; flags(body), bits);
+    }
+}
+
+// Where the box of each case stands.
+const PLACE: u64 = 700;
+
+#[test]
+fn full_boxes(rt: HostRuntime) {
+    let cut = Err(Bad::at(Code::TableLength, PLACE));
+    let new = Err(Bad::at(Code::BoxVersion, PLACE));
+    // the newest version, and where the fields end
+    let rows: [(&[u8], u32, usize, Result<(), Bad>); 11] = [
+        // three bytes, of which the first is too new a version, and four
+        (b"", 1, 4, cut),
+        (b"\x02\0\0", 1, 4, cut),
+        (b"\x02\0\0\0", 1, 4, new),
+        (b"\x01\0\0\0", 1, 4, Ok(())),
+        (b"\x01\0\0\0", 0, 4, new),
+        (b"\xFF\xFF\xFF\xFF", 254, 4, new),
+        (b"\xFF\xFF\xFF\xFF", 255, 4, Ok(())),
+        // the version before the end of the fields
+        (b"\x02\0\0\0\0\0\0", 1, 8, new),
+        (b"\x01\0\0\0\0\0\0", 1, 8, cut),
+        (b"\x01\0\0\0\0\0\0\0", 1, 8, Ok(())),
+        (b"\x01\0\0\0\0\0\0\0\0", 1, 8, Ok(())),
+    ];
+    for (body, newest, end, wanted) in rows {
+        let len = body.len();
+        assert_eq!(rt;
+            check_full_box(body, newest, end, PLACE),
+            wanted,
+            "{len} bytes, version {newest}, end {end}"
+        );
+    }
+}
+
+#[test]
+fn tables(rt: HostRuntime) {
+    let cut = Err(Bad::at(Code::TableLength, PLACE));
+    let new = Err(Bad::at(Code::BoxVersion, PLACE));
+    // the newest version, and the length of a row
+    let rows: [(&[u8], u32, u16, Result<u32, Bad>); 13] = [
+        // too short for a version, for a number of rows, and for the rows
+        (b"\x02\0\0", 1, 4, cut),
+        (b"\x02\0\0\0", 1, 4, new),
+        (b"\x01\0\0\0\0\0\0", 1, 4, cut),
+        (b"\x02\0\0\0\0\0\0\x01", 1, 4, new),
+        (b"\x01\0\0\0\0\0\0\x01abc", 1, 4, cut),
+        (b"\x01\0\0\0\0\0\0\x01abcd", 1, 4, Ok(1)),
+        (b"\x01\0\0\0\0\0\0\x01abcde", 1, 4, Ok(1)),
+        (b"\0\0\0\0\0\0\0\x03abcdefgh", 0, 3, cut),
+        (b"\0\0\0\0\0\0\0\x03abcdefghi", 0, 3, Ok(3)),
+        // no rows, and as many as there can be
+        (b"\0\0\0\0\0\0\0\0", 0, 65535, Ok(0)),
+        (b"\0\0\0\0\xFF\xFF\xFF\xFF", 0, 1, cut),
+        (b"\0\0\0\0\xFF\xFF\xFF\xFF", 0, 65535, cut),
+        (b"\0\0\0\0\xFF\xFF\xFF\xFF", 0, 0, Ok(u32::MAX)),
+    ];
+    for (body, newest, width, wanted) in rows {
+        let len = body.len();
+        assert_eq!(rt;
+            row_count(body, newest, usize::from(width), PLACE),
+            wanted,
+            "{len} bytes, version {newest}, rows of {width}"
+        );
+    }
+    // the first row of a table that is whole
+    let body = b"\0\0\0\0\0\0\0\x01abcd";
+    assert_eq!(rt; &body[FIRST_ROW..], b"abcd".as_slice());
 }

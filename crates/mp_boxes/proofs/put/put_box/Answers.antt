@@ -8,4 +8,4 @@ unfolding box_bytes
 returns c =
     let old = c.args.out.now in
     let filled = c.put_fields.ensures.filled old _ (c.put-at-2.ensures.filled old _ (c.put-at.ensures.filled old [] (nothing_filled old))) in
-    simp (c.to_be_bytes.ensures, c.box_len-len.ensures) at filled
+    simp (c.u32_bytes.ensures, c.box_len-len.ensures) at filled

@@ -7,13 +7,13 @@ pub returns-in-Ok-clause-written : goal.returns-in-Ok-clause-written
 returns-in-Ok-clause-written c =
     let old = c.args.out.now in
     let filled = c.put.ensures.filled old _ (c.put-at.ensures.filled old [] (nothing_filled old)) in
-    rw (head_bytes-short c.args.kind c.args.len c.in-Ok.ensures.0) (simp (c.to_be_bytes.ensures, c.in-Ok.ensures.1) at filled)
+    rw (head_bytes-short c.args.kind c.args.len c.in-Ok.ensures.0) (simp (c.u32_bytes.ensures, c.in-Ok.ensures.1) at filled)
 
 pub returns-in-Err-clause-written : goal.returns-in-Err-clause-written
 returns-in-Err-clause-written c =
     let old = c.args.out.now in
     let filled = c.put-in-Err.ensures.filled old _ (c.put-at-in-Err-2.ensures.filled old _ (c.put-at-in-Err.ensures.filled old [] (nothing_filled old))) in
-    rw (head_bytes-long c.args.kind c.args.len c.in-Err.ensures) (simp (c.to_be_bytes-in-Err.ensures, c.to_be_bytes-in-Err-2.ensures) at filled)
+    rw (head_bytes-long c.args.kind c.args.len c.in-Err.ensures) (simp (c.u32_bytes-in-Err.ensures, c.u64_bytes.ensures) at filled)
 
 pub returns-in-Err-clause-header : goal.returns-in-Err-clause-header
 returns-in-Err-clause-header c = λ top after.
