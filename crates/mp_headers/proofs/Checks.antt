@@ -4,7 +4,8 @@ use Rattle.std.specs.Prelude.{◌++◌, ◌∷◌, [], ◌==◌}
 use Rattle.std.proofs.lemmas.Bool.{or_parts, le-ltb, ltb-false, ne_eqb}
 use Rattle.mp_ports.specs.declared.code.Code.TheVariants.{ScaleZero}
 use Rattle.mp_ports.specs.Answer.{first_code}
-use Rattle.mp_headers.specs.FullBox.{first_field, has_wide_times, header_checks, version}
+use Rattle.mp_boxes.specs.FullBox.{first_field, full_box_checks, version}
+use Rattle.mp_headers.specs.Times.{newest_version, has_wide_times}
 use Rattle.mp_headers.specs.Version.{is_wide, last_narrow}
 
 -- the version of a box with such times
@@ -23,7 +24,7 @@ version_passes false = refl
 
 -- a known version, and enough bytes
 pub no_fault : (end : Bool → ℕ) (wide : Bool) (body : List ℕ) → version body ≡ version_of wide → first_field ≤ length body → end wide ≤ length body
-    → first_code (header_checks end body) ≡ None
+    → first_code (full_box_checks newest_version (end (has_wide_times body)) body) ≡ None
 no_fault end wide body v some enough =
     let a : ltb (length body) 4 ≡ false = le-ltb _ _ some in
     let b : ltb 1 (version body) ≡ false = rw v (version_passes wide) in
@@ -32,7 +33,7 @@ no_fault end wide body v some enough =
 
 -- and a timescale that isn't 0
 pub no_fault_with_scale : (end : Bool → ℕ) (wide : Bool) (body : List ℕ) (scale : ℕ) → version body ≡ version_of wide → first_field ≤ length body → end wide ≤ length body
-    → 0 < scale → first_code (header_checks end body ++ (scale == 0, ScaleZero) ∷ []) ≡ None
+    → 0 < scale → first_code (full_box_checks newest_version (end (has_wide_times body)) body ++ (scale == 0, ScaleZero) ∷ []) ≡ None
 no_fault_with_scale end wide body scale v some enough more =
     let a : ltb (length body) 4 ≡ false = le-ltb _ _ some in
     let b : ltb 1 (version body) ≡ false = rw v (version_passes wide) in

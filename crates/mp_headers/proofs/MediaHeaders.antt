@@ -2,7 +2,7 @@
 use Rattle.std.proofs.Common.{◌≡◌, ℕ, ◌+◌, ◌<◌, ◌^◌, Bool, true, false, List, length, Ok, refl, ap, arith}
 use Rattle.std.proofs.lemmas.Nat.{from_be_bytes-to_be_bytes_2, from_be_bytes-to_be_bytes_4, from_be_bytes-to_be_bytes_8}
 use Rattle.mp_boxes.specs.Number.{u16_at, u32_at, u64_at}
-use Rattle.mp_headers.specs.FullBox.{version}
+use Rattle.mp_boxes.specs.FullBox.{version}
 use Rattle.mp_headers.specs.Version.{is_wide}
 use Rattle.mp_headers.specs.MediaHeader.{mdhd, mdhd_fields, mdhd_of, mdhd_places, IsMdhd}
 use Rattle.mp_headers.specs.declared.media_header.Mdhd.{Mdhd}

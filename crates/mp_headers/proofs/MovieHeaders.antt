@@ -4,7 +4,8 @@ use Rattle.std.specs.Int.{w32, to_be_bytes}
 use Rattle.std.proofs.lemmas.List.{take_at, length-append}
 use Rattle.std.proofs.lemmas.Nat.{from_be_bytes-to_be_bytes_2, from_be_bytes-to_be_bytes_4, from_be_bytes-to_be_bytes_8}
 use Rattle.mp_boxes.specs.Number.{u16_at, u32_at, u64_at}
-use Rattle.mp_headers.specs.FullBox.{matrix_len, version}
+use Rattle.mp_boxes.specs.FullBox.{version}
+use Rattle.mp_headers.specs.Matrix.{matrix_len}
 use Rattle.mp_headers.specs.Version.{is_wide}
 use Rattle.mp_headers.specs.MovieHeader.{mvhd, mvhd_fields, mvhd_of, mvhd_places, IsMvhd}
 use Rattle.mp_headers.specs.declared.movie_header.Mvhd.{Mvhd}

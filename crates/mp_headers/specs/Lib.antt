@@ -1,5 +1,6 @@
 pub mod Version
-pub mod FullBox
+pub mod Times
+pub mod Matrix
 pub mod FileType
 pub mod MovieHeader
 pub mod TrackHeader

@@ -3,12 +3,12 @@ use Rattle.std.specs.Prelude.{ℕ, ◌+◌, ◌^◌, ◌<◌, Bool, ◌==◌, Li
 use Rattle.mp_ports.specs.declared.code.Code.{Code}
 use Rattle.mp_ports.specs.declared.code.Code.TheVariants.{ScaleZero}
 use Rattle.mp_ports.specs.declared.fault.Bad.{Bad}
-use Rattle.mp_ports.specs.Answer.{first_code, unless}
-use Rattle.mp_boxes.specs.Head.{placed}
+use Rattle.mp_ports.specs.Answer.{first_code, unless, placed}
 use Rattle.mp_boxes.specs.declared.field.Field.TheVariants.{U16, U32}
 use Rattle.mp_boxes.specs.Field.{Part, leaf, time, version_and_flags, zeros}
 use Rattle.mp_boxes.specs.Number.{u16_at, u32_at}
-use Rattle.mp_headers.specs.FullBox.{first_field, has_wide_times, header_checks, time_at, time_len}
+use Rattle.mp_boxes.specs.FullBox.{first_field, full_box_checks}
+use Rattle.mp_headers.specs.Times.{newest_version, has_wide_times, time_at, time_len}
 use Rattle.mp_headers.specs.Version.{is_wide}
 use Rattle.mp_headers.specs.declared.media_header.Mdhd.{Mdhd}
 use Rattle.mp_headers.specs.declared.media_header.MdhdPlaces.{MdhdPlaces}
@@ -53,7 +53,11 @@ mdhd_fields body =
 
 -- the faults of a body, in order
 abbrev pub mdhd_fault : List ℕ → Option Code
-mdhd_fault body = first_code (header_checks (λ wide. (mdhd_places wide).end) body ++ ((mdhd_fields body).timescale == 0, ScaleZero) ∷ [])
+mdhd_fault body =
+    first_code
+    (full_box_checks newest_version (mdhd_places (has_wide_times body)).end body
+    ++ ((mdhd_fields body).timescale == 0, ScaleZero)
+    ∷ [])
 
 -- the fields of the body of the box at `base`, or its first fault
 abbrev pub mdhd_of : ℕ → List ℕ → Result Mdhd Bad

@@ -3,12 +3,13 @@ use Rattle.std.specs.Prelude.{◌≡◌, ℕ, ◌+◌, ◌^◌, ◌<◌, Bool, �
 use Rattle.mp_ports.specs.declared.code.Code.{Code}
 use Rattle.mp_ports.specs.declared.code.Code.TheVariants.{ScaleZero}
 use Rattle.mp_ports.specs.declared.fault.Bad.{Bad}
-use Rattle.mp_ports.specs.Answer.{first_code, unless}
+use Rattle.mp_ports.specs.Answer.{first_code, unless, placed}
 use Rattle.mp_boxes.specs.declared.field.Field.TheVariants.{U16, U32}
-use Rattle.mp_boxes.specs.Head.{placed}
 use Rattle.mp_boxes.specs.Field.{Part, leaf, raw, time, version_and_flags, zeros}
 use Rattle.mp_boxes.specs.Number.{u16_at, u32_at}
-use Rattle.mp_headers.specs.FullBox.{first_field, has_wide_times, header_checks, matrix_at, matrix_len, time_at, time_len}
+use Rattle.mp_boxes.specs.FullBox.{first_field, full_box_checks}
+use Rattle.mp_headers.specs.Times.{newest_version, has_wide_times, time_at, time_len}
+use Rattle.mp_headers.specs.Matrix.{matrix_at, matrix_len}
 use Rattle.mp_headers.specs.Version.{is_wide}
 use Rattle.mp_headers.specs.declared.movie_header.Mvhd.{Mvhd}
 use Rattle.mp_headers.specs.declared.movie_header.MvhdPlaces.{MvhdPlaces}
@@ -75,7 +76,11 @@ mvhd_fields body =
 
 -- the faults of a body, in order
 abbrev pub mvhd_fault : List ℕ → Option Code
-mvhd_fault body = first_code (header_checks (λ wide. (mvhd_places wide).end) body ++ ((mvhd_fields body).timescale == 0, ScaleZero) ∷ [])
+mvhd_fault body =
+    first_code
+    (full_box_checks newest_version (mvhd_places (has_wide_times body)).end body
+    ++ ((mvhd_fields body).timescale == 0, ScaleZero)
+    ∷ [])
 
 -- the fields of the body of the box at `base`, or its first fault
 abbrev pub mvhd_of : ℕ → List ℕ → Result Mvhd Bad

@@ -2,12 +2,13 @@
 use Rattle.std.specs.Prelude.{◌≡◌, ℕ, ◌+◌, ◌^◌, ◌<◌, Bool, List, [], ◌∷◌, length, codes, Option, Result}
 use Rattle.mp_ports.specs.declared.code.Code.{Code}
 use Rattle.mp_ports.specs.declared.fault.Bad.{Bad}
-use Rattle.mp_ports.specs.Answer.{first_code, unless}
+use Rattle.mp_ports.specs.Answer.{first_code, unless, placed}
 use Rattle.mp_boxes.specs.declared.field.Field.TheVariants.{U16, U32}
-use Rattle.mp_boxes.specs.Head.{placed}
 use Rattle.mp_boxes.specs.Field.{Part, leaf, raw, time, version_and_flags, zeros}
 use Rattle.mp_boxes.specs.Number.{u16_at, u32_at}
-use Rattle.mp_headers.specs.FullBox.{first_field, flags, has_wide_times, header_checks, matrix_at, matrix_len, time_at, time_len}
+use Rattle.mp_boxes.specs.FullBox.{first_field, flags, full_box_checks}
+use Rattle.mp_headers.specs.Times.{newest_version, has_wide_times, time_at, time_len}
+use Rattle.mp_headers.specs.Matrix.{matrix_at, matrix_len}
 use Rattle.mp_headers.specs.Version.{is_wide}
 use Rattle.mp_headers.specs.declared.track_header.Tkhd.{Tkhd}
 use Rattle.mp_headers.specs.declared.track_header.TkhdPlaces.{TkhdPlaces}
@@ -85,7 +86,7 @@ tkhd_fields body =
 
 -- the faults of a body, in order
 abbrev pub tkhd_fault : List ℕ → Option Code
-tkhd_fault body = first_code (header_checks (λ wide. (tkhd_places wide).end) body)
+tkhd_fault body = first_code (full_box_checks newest_version (tkhd_places (has_wide_times body)).end body)
 
 -- the fields of the body of the box at `base`, or its first fault
 abbrev pub tkhd_of : ℕ → List ℕ → Result Tkhd Bad

@@ -1,5 +1,5 @@
 // The file type box.
-ghost use Rattle.std.specs.Prelude.{◌≡◌, ◌+◌, ◌≤◌, length};
+ghost use Rattle.std.specs.Prelude.{◌+◌, ◌≤◌, length};
 ghost use Rattle.mp_boxes.specs.Field.{box_bytes};
 ghost use Rattle.mp_boxes.specs.Front.{IsFilled};
 ghost use Rattle.mp_headers.specs.FileType.{ftyp};

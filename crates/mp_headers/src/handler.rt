@@ -4,8 +4,7 @@ ghost use Rattle.mp_boxes.specs.Field.{box_bytes};
 ghost use Rattle.mp_boxes.specs.Front.{IsFilled};
 ghost use Rattle.mp_headers.specs.Handler.{hdlr, hdlr_of};
 
-use crate::full_box::FIRST_FIELD;
-use mp_boxes::{Field, kind_in, put_box};
+use mp_boxes::{FIRST_FIELD, Field, kind_in, put_box};
 use mp_ports::{Bad, Code};
 
 const HANDLER_PLACE: usize = FIRST_FIELD + 4;

@@ -2,8 +2,8 @@
 ghost use Rattle.std.specs.Prelude.{◌≡◌, ℕ, ◌+◌, ◌<◌, ◌^◌, List, length, Ok};
 ghost use Rattle.mp_headers.specs.DataReference.{dinf};
 ghost use Rattle.mp_headers.specs.FileType.{ftyp};
-ghost use Rattle.mp_headers.specs.FullBox.{matrix_len};
 ghost use Rattle.mp_headers.specs.Handler.{IsHandler, hdlr, hdlr_of, name_of};
+ghost use Rattle.mp_headers.specs.Matrix.{matrix_len};
 ghost use Rattle.mp_headers.specs.MediaHeader.{IsMdhd, mdhd, mdhd_of};
 ghost use Rattle.mp_headers.specs.MediaInformation.{media_header};
 ghost use Rattle.mp_headers.specs.MovieHeader.{IsMvhd, mvhd, mvhd_of};

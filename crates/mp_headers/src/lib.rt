@@ -7,14 +7,15 @@
 
 mod data_reference;
 mod file_type;
-mod full_box;
 mod handler;
 mod law;
+mod matrix;
 mod media_header;
 mod media_information;
 mod movie_header;
 #[cfg(test)]
 mod tests;
+mod times;
 mod track_header;
 mod version;
 

@@ -2,11 +2,11 @@
 ghost use Rattle.std.specs.Prelude.{◌≡◌, ◌+◌, ◌≤◌, length};
 ghost use Rattle.mp_boxes.specs.Field.{box_bytes};
 ghost use Rattle.mp_boxes.specs.Front.{IsFilled};
-ghost use Rattle.mp_headers.specs.MediaHeader.{mdhd, mdhd_fault, mdhd_fields, mdhd_of, mdhd_places};
+ghost use Rattle.mp_headers.specs.MediaHeader.{mdhd, mdhd_of, mdhd_places};
 
-use crate::full_box::{FIRST_FIELD, has_wide_times, time_in, time_len};
+use crate::times::{has_wide_times, time_in, time_len};
 use crate::version::is_wide;
-use mp_boxes::{Field, put_box, u16_in, u32_in};
+use mp_boxes::{FIRST_FIELD, Field, put_box, u16_in, u32_in};
 use mp_ports::{Bad, Code};
 
 /// The fields of `mdhd` (ISO/IEC 14496-12, 8.4.2).

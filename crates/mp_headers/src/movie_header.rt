@@ -4,9 +4,10 @@ ghost use Rattle.mp_boxes.specs.Field.{box_bytes};
 ghost use Rattle.mp_boxes.specs.Front.{IsFilled};
 ghost use Rattle.mp_headers.specs.MovieHeader.{mvhd, mvhd_of, mvhd_places};
 
-use crate::full_box::{FIRST_FIELD, MATRIX_LEN, has_wide_times, matrix_in, time_in, time_len};
+use crate::matrix::{MATRIX_LEN, matrix_in};
+use crate::times::{has_wide_times, time_in, time_len};
 use crate::version::is_wide;
-use mp_boxes::{Field, put_box, u16_in, u32_in};
+use mp_boxes::{FIRST_FIELD, Field, put_box, u16_in, u32_in};
 use mp_ports::{Bad, Code};
 
 /// The fields of `mvhd` (ISO/IEC 14496-12, 8.2.2).
@@ -21,7 +22,7 @@ pub struct Mvhd {
     pub duration: u64,
     pub rate: u32,
     pub volume: u16,
-    pub matrix: [u8; 36],
+    pub matrix: [u8; MATRIX_LEN],
     pub next_track: u32,
 }
 

@@ -4,11 +4,10 @@ ghost use Rattle.mp_boxes.specs.Field.{box_bytes};
 ghost use Rattle.mp_boxes.specs.Front.{IsFilled};
 ghost use Rattle.mp_headers.specs.TrackHeader.{tkhd, tkhd_of, tkhd_places};
 
-use crate::full_box::{
-    FIRST_FIELD, MATRIX_LEN, flags, has_wide_times, matrix_in, time_in, time_len,
-};
+use crate::matrix::{MATRIX_LEN, matrix_in};
+use crate::times::{has_wide_times, time_in, time_len};
 use crate::version::is_wide;
-use mp_boxes::{Field, put_box, u16_in, u32_in};
+use mp_boxes::{FIRST_FIELD, Field, flags, put_box, u16_in, u32_in};
 use mp_ports::{Bad, Code};
 
 /// The fields of `tkhd` (ISO/IEC 14496-12, 8.3.2).
@@ -25,7 +24,7 @@ pub struct Tkhd {
     pub layer: u16,
     pub group: u16,
     pub volume: u16,
-    pub matrix: [u8; 36],
+    pub matrix: [u8; MATRIX_LEN],
     pub width: u32,
     pub height: u32,
 }
