@@ -1,10 +1,11 @@
 -- What is kept and what is written are sample entries.
-use Rattle.std.proofs.Common.{◌≡◌, ℕ, ◌+◌, ◌-◌, ◌^◌, ◌<◌, ◌≤◌, Bool, true, false, cond, List, [], ◌∷◌, ◌++◌, length, get_or, take, drop, set, Option, Some, None, Ok, refl, sym, ap, ◌∙◌, append_assoc, arith}
+use Rattle.std.proofs.Common.{◌≡◌, ℕ, ◌+◌, ◌-◌, ◌^◌, ◌<◌, ◌≤◌, Bool, true, false, cond, List, [], ◌∷◌, ◌++◌, length, get_or, take, drop, Option, Some, None, Ok, refl, sym, ap, ◌∙◌, append_assoc, arith}
 use Rattle.std.specs.Prelude.{codes, if◌then◌else◌}
 use Rattle.std.specs.Int.{w32, to_be_bytes}
 use Rattle.std.specs.Str.{bytes_eq}
 use Rattle.std.proofs.lemmas.Bool.{ltb-false}
-use Rattle.std.proofs.lemmas.List.{append-nil, drop_all, length-append, length-take, length-drop, length-set, take-append-drop, take-set-le, get_or-set_same, get_or-set_other, take_more_set, drop-set-lt}
+use Rattle.std.proofs.lemmas.List.{append-nil, drop_all, length-append, length-take, length-drop, get_or-append-add}
+use Rattle.std.proofs.Math.Seq.{take-add}
 use Rattle.mp_ports.specs.declared.code.Code.{Code}
 use Rattle.mp_boxes.specs.declared.head.TopHead.{TopHead}
 use Rattle.mp_boxes.specs.Boxes.{IsBytes}
@@ -13,8 +14,8 @@ use Rattle.mp_boxes.specs.Header.{Short, IsHeader}
 use Rattle.mp_boxes.specs.Head.{head_at}
 use Rattle.mp_boxes.specs.Field.{Part, box_bytes, body_bytes}
 use Rattle.mp_boxes.specs.Parts.{HasPlainKind}
-use Rattle.mp_entries.specs.Entry.{IsEntry, is_protected}
-use Rattle.mp_entries.specs.Kept.{entry_fault, with_first_reference, kept_entry}
+use Rattle.mp_entries.specs.Entry.{IsEntry, is_protected, reference}
+use Rattle.mp_entries.specs.Kept.{entry_fault, with_first_reference}
 use Rattle.mp_entries.specs.Esds.{EsdsRecord, sound_fields, picture_fields, esds, esds_entry}
 
 same_head : (a b : TopHead) → a.kind ≡ b.kind → a.head ≡ b.head → a.len ≡ b.len → a ≡ b
@@ -73,55 +74,59 @@ passed : (test : Bool) (code : Code) (others : Option Code) → (if test then So
 passed true code others e = absurd cc
 passed false code others e = (refl, e)
 
-pub kept_is : (base : ℕ) (bytes : List ℕ) (local : List Bool) (head : TopHead) → head_at false bytes ≡ Ok head → entry_fault head.kind head.head bytes local ≡ None
-    → kept_entry base bytes local ≡ Ok (with_first_reference head.head bytes)
-kept_is base bytes local head e f = rw (e, f) refl
-
-pub entry_room : (bytes : List ℕ) (local : List Bool) (head : TopHead) → entry_fault head.kind head.head bytes local ≡ None → head.head + 8 ≤ length bytes
+entry_room : (bytes : List ℕ) (local : List Bool) (head : TopHead) → entry_fault head.kind head.head bytes local ≡ None → head.head + 8 ≤ length bytes
 entry_room bytes local head fine = ltb-false _ _ (passed _ _ _ fine).0
 
 entry_plain : (bytes : List ℕ) (local : List Bool) (head : TopHead) → entry_fault head.kind head.head bytes local ≡ None → is_protected head.kind ≡ false
 entry_plain bytes local head fine = (passed _ _ _ (passed _ _ _ fine).1).0
 
--- the two bytes of the index
-pub index_set : (bytes : List ℕ) (from : ℕ) → from + 8 ≤ length bytes → with_first_reference from bytes ≡ set (set bytes (from + 6) 0) (from + 7) 1
-index_set bytes from le =
-    let low = set bytes (from + 6) 0 in
-    let new = set low (from + 7) 1 in
-    let low_in : from + 6 < length bytes = omega arith in
-    let high_in : from + 7 < length low = omega (arith, length-set bytes (from + 6) 0) in
-    let sixth : from + 7 ≡ from + 6 + 1 = omega arith in
-    let seventh : from + 8 ≡ from + 7 + 1 = omega arith in
-    let two : take (from + 7) low ≡ take (from + 6) bytes ++ 0 ∷ [] = ap (λ (n : ℕ). take n low) sixth ∙ take_more_set bytes (from + 6) 0 low_in in
-    let front : take (from + 8) new ≡ (take (from + 6) bytes ++ 0 ∷ []) ++ 1 ∷ [] =
-    ap (λ (n : ℕ). take n new) seventh ∙ (take_more_set low (from + 7) 1 high_in ∙ ap (λ (t : List ℕ). t ++ 1 ∷ []) two) in
-    let behind : drop (from + 8) new ≡ drop (from + 8) bytes = drop-set-lt (from + 8) low (from + 7) 1 (omega arith) ∙ drop-set-lt (from + 8) bytes (from + 6) 0 (omega arith) in
-    ap (λ (t : List ℕ). t ++ drop (from + 8) bytes) (sym (append_assoc (take (from + 6) bytes) (0 ∷ []) (1 ∷ [])) ∙ sym front)
-    ∙ (ap (λ (t : List ℕ). take (from + 8) new ++ t) (sym behind) ∙ take-append-drop (from + 8) new)
+-- the body of the entry that is kept
+kept_body : ℕ → List ℕ → List ℕ
+kept_body from bytes = take 6 (drop from bytes) ++ (0 ∷ 1 ∷ drop (from + 8) bytes)
+
+kept_is : (bytes : List ℕ) (from : ℕ) → with_first_reference from bytes ≡ take from bytes ++ kept_body from bytes
+unfolding kept_body
+kept_is bytes from =
+    append_assoc (take (from + 6) bytes) (0 ∷ 1 ∷ []) (drop (from + 8) bytes)
+    ∙ rw (take-add from 6 bytes) (append_assoc (take from bytes) (take 6 (drop from bytes)) (0 ∷ 1 ∷ drop (from + 8) bytes))
+
+length-kept_body : (bytes : List ℕ) (from : ℕ) → from + 8 ≤ length bytes → from + length (kept_body from bytes) ≡ length bytes
+unfolding kept_body
+length-kept_body bytes from le =
+    omega
+    (arith, length-append (take 6 (drop from bytes)) (0 ∷ 1 ∷ drop (from + 8) bytes), length-take 6 (drop from bytes), length-drop from bytes, length-drop (from + 8) bytes)
+
+length-kept : (bytes : List ℕ) (from : ℕ) → from + 8 ≤ length bytes → length (with_first_reference from bytes) ≡ length bytes
+length-kept bytes from le =
+    let body = length-kept_body bytes from le in
+    omega (arith, ap length (kept_is bytes from), length-append (take from bytes) (kept_body from bytes), length-take from bytes)
+
+-- a byte behind a part of known length
+behind : (front rest : List ℕ) (at i : ℕ) → at ≡ length front + i → get_or (front ++ rest) at 0 ≡ get_or rest i 0
+behind front rest at i e = rw e (get_or-append-add front rest i 0)
+
+reference-kept : (bytes : List ℕ) (from : ℕ) → from + 8 ≤ length bytes → reference (with_first_reference from bytes) from ≡ 1
+unfolding u16_at
+reference-kept bytes from le =
+    let front = take (from + 6) bytes in
+    let rest = 0 ∷ 1 ∷ drop (from + 8) bytes in
+    let len : length front ≡ from + 6 = omega (arith, length-take (from + 6) bytes) in
+    rw (append_assoc front (0 ∷ 1 ∷ []) (drop (from + 8) bytes), behind front rest (from + 6) 0 (omega arith), behind front rest (from + 6 + 1) 1 (omega arith)) refl
 
 pub kept_is_entry : (bytes : List ℕ) (local : List Bool) (head : TopHead) → IsBytes bytes → head_at false bytes ≡ Ok head → head.len ≡ length bytes → entry_fault head.kind head.head bytes local ≡ None
-    → Stays → IsEntry (set (set bytes (head.head + 6) 0) (head.head + 7) 1)
-unfolding u16_at
+    → Stays → IsEntry (with_first_reference head.head bytes)
 kept_is_entry bytes local head all read ends fine stays =
     let from = head.head in
-    let new = set (set bytes (from + 6) 0) (from + 7) 1 in
-    let room : from + 8 ≤ length bytes = entry_room bytes local head fine in
-    let plain = entry_plain bytes local head fine in
-    let len : length new ≡ length bytes = length-set (set bytes (from + 6) 0) (from + 7) 1 ∙ length-set bytes (from + 6) 0 in
-    let front : take from new ≡ take from bytes = take-set-le from (set bytes (from + 6) 0) (from + 7) 1 (omega arith) ∙ take-set-le from bytes (from + 6) 0 (omega arith) in
-    let parts : take from bytes ++ drop from new ≡ new = ap (λ (t : List ℕ). t ++ drop from new) (sym front) ∙ take-append-drop from new in
-    let again = stays bytes (drop from new) head all read ends (omega (arith, length-drop from new)) in
-    let zero_is : get_or new (from + 6) 0 ≡ 0 =
-    get_or-set_other (set bytes (from + 6) 0) (from + 7) (from + 6) 1 0 (λ e. omega arith) ∙ get_or-set_same bytes (from + 6) 0 0 (omega arith) in
-    let place : from + 6 + 1 ≡ from + 7 = omega arith in
-    let one_is : get_or new (from + 6 + 1) 0 ≡ 1 = rw place (get_or-set_same (set bytes (from + 6) 0) (from + 7) 1 0 (omega (arith, length-set bytes (from + 6) 0))) in
+    let room = entry_room bytes local head fine in
+    let len = length-kept bytes from room in
+    let again = stays bytes (kept_body from bytes) head all read ends (length-kept_body bytes from room) in
     record {
       head = head;
-      read = ap (head_at false) (sym parts) ∙ again;
+      read = ap (head_at false) (kept_is bytes from) ∙ again;
       ends = ends ∙ sym len;
       room = omega arith;
-      plain = plain;
-      first = rw (zero_is, one_is) refl;
+      plain = entry_plain bytes local head fine;
+      first = reference-kept bytes from room;
     }
 
 part_is_entry : (a b c d : ℕ) (rest : List ℕ) → bytes_eq (a ∷ b ∷ c ∷ d ∷ []) (codes "uuid") ≡ false → is_protected (a ∷ b ∷ c ∷ d ∷ []) ≡ false → Whole

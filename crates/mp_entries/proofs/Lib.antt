@@ -1,3 +1,4 @@
 pub mod Lengths
 pub mod Appending
 pub mod Keeping
+mod EntriesAreKept

@@ -4,8 +4,8 @@ use Rattle.std.specs.Int.{w16, to_be_bytes}
 use Rattle.mp_ports.specs.declared.code.Code.{Code}
 use Rattle.mp_ports.specs.declared.code.Code.TheVariants.{TableLength, Encrypted, EntryIndex, External}
 use Rattle.mp_ports.specs.declared.fault.Bad.{Bad}
-use Rattle.mp_ports.specs.Answer.{first_code, unless, ◌>>=◌}
-use Rattle.mp_boxes.specs.Head.{head_at, placed}
+use Rattle.mp_ports.specs.Answer.{first_code, unless, ◌>>=◌, placed}
+use Rattle.mp_boxes.specs.Head.{head_at}
 use Rattle.mp_entries.specs.Entry.{is_protected, reference}
 
 -- the faults of an entry of that type whose body begins at `from`, in order; `local` tells which data references are in the file

@@ -1,16 +1,16 @@
 //! Sample entries as they stand in a file (ISO/IEC 14496-12, 8.5.2).
 
-ghost use Rattle.std.specs.Prelude.{◌≡◌, ℕ, ◌+◌, ◌<◌, ◌^◌, length, Ok, IfOk, false};
+ghost use Rattle.std.specs.Prelude.{◌≡◌, ◌+◌, ◌<◌, ◌≤◌, ◌^◌, length, Ok, IfOk, false};
 ghost use Rattle.mp_ports.specs.Answer.{Checks, Gives};
 ghost use Rattle.mp_boxes.specs.declared.head.TopHead.{TopHead};
 ghost use Rattle.mp_boxes.specs.Head.{head_at, box_head};
 ghost use Rattle.mp_entries.specs.Entry.{IsWhole, IsEntry, is_protected};
-ghost use Rattle.mp_entries.specs.Kept.{entry_fault, kept_entry};
+ghost use Rattle.mp_entries.specs.Kept.{entry_fault, kept_entry, with_first_reference};
 
 use crate::law::head_stays;
-use mp_boxes::{BoxHead, next_box, u16_in};
+use mp_boxes::{BoxHead, Field, append_fields, next_box, u16_in};
 use mp_ports::{Bad, Code, Fail};
-use std::alloc::Global;
+use std::alloc::{AllocError, Global};
 
 /// The head of the one box.
 fn whole_head(bytes: &[u8], base: u64) -> BoxHead
@@ -52,6 +52,22 @@ fn check_entry(kind: [u8; 4], from: usize, bytes: &[u8], local: &[bool]) -> Resu
     Ok(())
 }
 
+/// The same entry with data reference 1, where its body begins at `from`.
+fn with_first_reference(alloc: Global, bytes: &[u8], from: usize) -> Result<Vec<u8>, AllocError>
+    requires { from + 8 ≤ length bytes.now }
+    ensures { IfOk result (λ entry. entry.items ≡ with_first_reference from bytes.now) }
+{
+    let index = from + 6;
+    let fields = [
+        Field::Bytes(&bytes[..index]),
+        Field::U16(1),
+        Field::Bytes(&bytes[index + 2..]),
+    ];
+    let mut entry = Vec::with_capacity(alloc, bytes.len())?;
+    append_fields(&mut entry, &fields)?;
+    Ok(entry)
+}
+
 /// The entry in the box at `base`, with data reference 1. `local` tells which of the data references
 /// are in the file.
 ///
@@ -68,8 +84,6 @@ pub fn read_entry(alloc: Global, bytes: &[u8], base: u64, local: &[bool]) -> Res
         return Err(Bad::at(code, base).into());
     }
     head_stays();
-    let mut entry = Vec::from_slice(alloc, bytes)?;
-    entry[head.head + 6] = 0;
-    entry[head.head + 7] = 1;
+    let entry = with_first_reference(alloc, bytes, head.head)?;
     Ok(entry)
 }

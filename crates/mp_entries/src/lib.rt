@@ -4,7 +4,6 @@
 //! An entry that is too short, protected, of no data reference or of data in another file is refused.
 #![tactic(auto)]
 
-mod append;
 mod descriptor;
 mod entry;
 mod esds;
@@ -15,4 +14,5 @@ mod tests;
 
 pub use entry::read_entry;
 pub use esds::EsdsEntry;
+pub use law::entries_are_kept;
 pub use put::esds_entry;

@@ -4,13 +4,12 @@ ghost use Rattle.std.specs.Prelude.{◌≡◌, ◌+◌, ◌^◌, ◌<◌, ◌≤
 ghost use Rattle.mp_boxes.specs.Field.{body_bytes, box_bytes};
 ghost use Rattle.mp_entries.specs.Entry.{IsEntry};
 ghost use Rattle.mp_entries.specs.Descriptor.{descriptor, stream_tag, decoder_tag};
-ghost use Rattle.mp_entries.specs.Esds.{specific_info, decoder_fields, decoder_body, stream_body, stream_byte, esds, sample_rate, sound_fields, picture_fields, sample_fields, esds_entry};
+ghost use Rattle.mp_entries.specs.Esds.{specific_info, decoder_body, stream_body, stream_byte, esds, sample_rate, sound_fields, picture_fields, sample_fields, esds_entry};
 
-use crate::append::append_fields;
 use crate::descriptor::{append_head, descriptor_len};
 use crate::esds::EsdsEntry;
 use crate::law::written_is_whole;
-use mp_boxes::Field;
+use mp_boxes::{Field, append_fields, u32_bytes};
 use mp_ports::NoMemory;
 use std::alloc::{AllocError, Global};
 
@@ -106,7 +105,7 @@ fn append_decoder(out: &mut Vec<u8>, entry: &EsdsEntry) -> Result<(), AllocError
     ensures { OnOk result (out.new.items ≡ out.old.items ++ descriptor decoder_tag (decoder_body entry.now)) }
 {
     append_head(out, DECODER, decoder_len(entry))?;
-    let buffer = entry.buffer.to_be_bytes();
+    let buffer = u32_bytes(entry.buffer);
     let fields = [
         Field::Bytes(&[entry.object]),
         Field::Bytes(&[stream_byte(entry.audio)]),
@@ -209,11 +208,12 @@ pub fn esds_entry(alloc: Global, entry: &EsdsEntry) -> Result<Vec<u8>, NoMemory>
     requires buffer { entry.now.buffer < 2 ^ 24 }
     ensures written { IfOk result (λ out. out.items ≡ box_bytes (esds_entry entry.now)) }
     ensures well_formed { IfOk result (λ out. IsEntry out.items) }
+    ensures short { IfOk result (λ out. length out.items ≤ 65668) }
 {
     written_is_whole();
     let len = entry_len(entry);
     let mut out = Vec::with_capacity(alloc, len)?;
-    out.extend_from_slice(&(len as u32).to_be_bytes())?;
+    out.extend_from_slice(&u32_bytes(len as u32))?;
     append_sample(&mut out, entry)?;
     append_esds(&mut out, entry)?;
     Ok(out)

@@ -9,5 +9,5 @@ returns c =
     let decoder = descriptor decoder_tag (decoder_body c.args.entry.now) in
     c.in_ok-extend_from_slice.ensures.items
     ∙ (ap (λ (t : List ℕ). t ++ (6 ∷ 1 ∷ 2 ∷ [])) c.in_ok-append_decoder.ensures
-    ∙ (ap (λ (t : List ℕ). (t ++ decoder) ++ (6 ∷ 1 ∷ 2 ∷ [])) c.in_ok-append_fields.ensures
+    ∙ (ap (λ (t : List ℕ). (t ++ decoder) ++ (6 ∷ 1 ∷ 2 ∷ [])) c.in_ok-append_fields.ensures.ok
     ∙ (ap (λ (t : List ℕ). ((t ++ (0 ∷ 0 ∷ 0 ∷ [])) ++ decoder) ++ (6 ∷ 1 ∷ 2 ∷ [])) c.in_ok-append_head.ensures ∙ appended_stream c.args.out.now.items c.args.entry.now _ c.stream_len.ensures.len)))

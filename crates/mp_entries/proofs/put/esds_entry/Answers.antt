@@ -10,7 +10,7 @@ pub returns-clause-written : goal.returns-clause-written
 returns-clause-written c =
     let e = c.args.entry.now in
     c.in_ok-append_esds.ensures
-    ∙ rw (c.in_ok-append_sample.ensures, c.in_ok-extend_from_slice.ensures.items, c.to_be_bytes.ensures, c.in_ok-out.ensures.items)
+    ∙ rw (c.in_ok-append_sample.ensures, c.in_ok-extend_from_slice.ensures.items, c.u32_bytes.ensures, c.in_ok-out.ensures.items)
     (appended_box [] (esds_entry e).kind (body_bytes (sample_fields e)) (box_bytes (esds e)) c.entry_len-len.result c.entry_len-len.ensures.len)
 
 pub returns-clause-well_formed : goal.returns-clause-well_formed
