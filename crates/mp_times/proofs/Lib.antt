@@ -1,7 +1,8 @@
 pub mod EntriesFollow
+pub mod Bits
 pub mod RunsAreLongest
 pub mod WholeTables
-pub mod Faults
+pub mod LeftOut
 pub mod MarksFromNumbers
 pub mod WrittenRows
 pub mod WrittenMarks

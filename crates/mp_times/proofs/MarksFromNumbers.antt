@@ -1,41 +1,35 @@
 -- Numbers that rise give the mark of each sample, read one after another.
-use Rattle.std.proofs.Common.{◌≡◌, ℕ, zero, suc, ◌+◌, ◌-◌, ◌*◌, ◌<◌, ◌≤◌, Bool, true, false, cond, ltb, leb, eqb, ◌&&◌, List, [], ◌∷◌, ◌++◌, length, replicate, drop, take, map, ℤ, pos, refl, sym, ap, ◌∙◌, append_assoc, add-zero, arith, Some, None, Ok, Err}
-use Rattle.std.specs.Prelude.{Option}
+use Rattle.std.proofs.Common.{◌≡◌, ℕ, zero, suc, ◌+◌, ◌-◌, ◌*◌, ◌<◌, ◌≤◌, Bool, true, false, ltb, leb, eqb, ◌&&◌, List, [], ◌∷◌, ◌++◌, length, replicate, drop, map, ℤ, pos, refl, sym, ap, ◌∙◌, append_assoc, add-zero, arith, Some, None, Ok, Err, inl, inr}
+use Rattle.std.specs.Prelude.{Option, Result, ◌⊎◌}
 use Rattle.std.proofs.Math.Nat.{zero-add}
-use Rattle.std.specs.List.{list_all, list_any, range_with_len}
-use Rattle.std.proofs.lemmas.Bool.{false≢true, lt-ltb, le-ltb, le-leb, lt-leb, ltb-true, leb-true, eq-eqb, ne_eqb, false_from_ne_true}
-use Rattle.std.proofs.lemmas.List.{append-nil, map-append, length-append, length-replicate}
+use Rattle.std.specs.List.{list_any, range_with_len}
+use Rattle.std.proofs.lemmas.Bool.{and_parts, false≢true, lt-ltb, le-ltb, le-leb, lt-leb, ltb-true, leb-true, eq-eqb, ne_eqb}
+use Rattle.std.proofs.lemmas.List.{map-append, length-append, length-replicate}
 use Rattle.mp_ports.specs.declared.code.Code.{Code}
 use Rattle.mp_ports.specs.declared.code.Code.TheVariants.{SyncOrder}
-use Rattle.mp_ports.specs.Answer.{bad_at}
+use Rattle.mp_ports.specs.declared.fault.Bad.{Bad}
+use Rattle.mp_ports.specs.Answer.{bad_at, placed, unless}
 use Rattle.mp_boxes.specs.Number.{u32_at}
-use Rattle.mp_boxes.specs.Head.{placed}
-use Rattle.mp_times.specs.Table.{row_count, rows_of, table_fault}
+use Rattle.mp_boxes.specs.FullBox.{row_count, rows_of, table_fault}
 use Rattle.mp_times.specs.Sync.{is_rising, are_samples, mark, marks, numbers_of, order_fault, stss_of}
-use Rattle.mp_times.proofs.EntriesFollow.{u32_at-row, rows_of-next, rows_of-none}
+use Rattle.mp_times.proofs.EntriesFollow.{first_number, rows_from, rows_from-next, rows_from-none}
 
 -- the numbers from index i on
 unfoldable pub numbers_from : ℕ → List ℕ → ℕ → List ℕ
-numbers_from n body i = map (λ row. u32_at row 0) (rows_of (n - i) 4 (drop (8 + 4 * i) body))
+numbers_from rows body i = map (λ row. u32_at row 0) (rows_from 4 rows i body)
 
-pub numbers_from-next : (n : ℕ) (body : List ℕ) (i : ℕ) → i < n → numbers_from n body i ≡ u32_at body (8 + 4 * i) ∷ numbers_from n body (i + 1)
+pub numbers_from-next : (rows : ℕ) (body : List ℕ) (i : ℕ) → i < rows → numbers_from rows body i ≡ u32_at body (8 + 4 * i) ∷ numbers_from rows body (i + 1)
 unfolding numbers_from
-numbers_from-next n body i lt =
-    let number = u32_at-row body (8 + 4 * i) 0 4 (omega arith) ∙ ap (λ (k : ℕ). u32_at body k) (add-zero (8 + 4 * i)) in
-    ap (map (λ row. u32_at row 0)) (rows_of-next 4 n i body lt) ∙ rw number refl
+numbers_from-next rows body i lt = ap (map (λ row. u32_at row 0)) (rows_from-next 4 rows i body lt) ∙ rw (first_number body (8 + 4 * i) 4 (omega arith)) refl
 
-pub numbers_from-none : (n : ℕ) (body : List ℕ) (i : ℕ) → n ≤ i → numbers_from n body i ≡ []
+pub numbers_from-none : (rows : ℕ) (body : List ℕ) (i : ℕ) → rows ≤ i → numbers_from rows body i ≡ []
 unfolding numbers_from
-numbers_from-none n body i le = rw (rows_of-none 4 n i (drop (8 + 4 * i) body) le) refl
+numbers_from-none rows body i le = rw (rows_from-none 4 rows i body le) refl
 
 -- each number is greater than the one before it, the first is greater than `low`, and none is greater than `most`
 unfoldable pub rise : ℕ → ℕ → List ℕ → Bool
 rise low most [] = true
 rise low most (number ∷ numbers) = ltb low number && (leb number most && rise number most numbers)
-
-both : (a b : Bool) → (a && b) ≡ true → (a ≡ true) × (b ≡ true)
-both true b e = (refl, e)
-both false b e = absurd (false≢true e)
 
 record IsNext (low most number : ℕ) (numbers : List ℕ) : Type 0 where
   above : low < number
@@ -45,8 +39,8 @@ record IsNext (low most number : ℕ) (numbers : List ℕ) : Type 0 where
 next_of : (low most number : ℕ) (numbers : List ℕ) → rise low most (number ∷ numbers) ≡ true → IsNext low most number numbers
 unfolding rise
 next_of low most number numbers e =
-    let p = both (ltb low number) (leb number most && rise number most numbers) e in
-    let q = both (leb number most) (rise number most numbers) p.1 in
+    let p = and_parts (ltb low number) (leb number most && rise number most numbers) e in
+    let q = and_parts (leb number most) (rise number most numbers) p.1 in
     record { above = ltb-true low number p.0; within = leb-true number most q.0; rest = q.1 }
 
 pub rise-next : (low most number : ℕ) (numbers : List ℕ) → low < number → number ≤ most → rise low most (number ∷ numbers) ≡ rise number most numbers
@@ -90,17 +84,17 @@ rise_from : (low most : ℕ) (numbers : List ℕ) → is_rising (low ∷ numbers
 unfolding rise
 rise_from low most [] r s = refl
 rise_from low most (number ∷ numbers) r s =
-    let p = both (ltb low number) (is_rising (number ∷ numbers)) r in
-    let q = both (leb 1 number && leb number most) (are_samples most numbers) s in
-    let t = both (leb 1 number) (leb number most) q.0 in
+    let p = and_parts (ltb low number) (is_rising (number ∷ numbers)) r in
+    let q = and_parts (leb 1 number && leb number most) (are_samples most numbers) s in
+    let t = and_parts (leb 1 number) (leb number most) q.0 in
     rw (p.0, t.1) (rise_from number most numbers p.1 q.1)
 
 from_zero : (most : ℕ) (numbers : List ℕ) → is_rising numbers ≡ true → are_samples most numbers ≡ true → rise 0 most numbers ≡ true
 unfolding rise
 from_zero most [] r s = refl
 from_zero most (number ∷ numbers) r s =
-    let q = both (leb 1 number && leb number most) (are_samples most numbers) s in
-    let t = both (leb 1 number) (leb number most) q.0 in
+    let q = and_parts (leb 1 number && leb number most) (are_samples most numbers) s in
+    let t = and_parts (leb 1 number) (leb number most) q.0 in
     let some = leb-true 1 number t.0 in
     rise_from 0 most (number ∷ numbers) (rw (lt-ltb 0 number (omega arith)) r) s
 
@@ -174,30 +168,45 @@ marks_read most numbers e = gaps-marks 0 most numbers (omega arith) e ∙ ap (λ
 
 -- ---- one number after another
 
-pub numbers_from-all : (n : ℕ) (body : List ℕ) → row_count body ≡ n → numbers_from n body 0 ≡ numbers_of body
-unfolding numbers_from
-numbers_from-all n body e =
-    let all : n - 0 ≡ row_count body = omega (arith, e) in
-    ap (λ (k : ℕ). map (λ row. u32_at row 0) (rows_of k 4 (drop 8 body))) all
+-- the samples up to the number of row `i` are marked
+pub record SamplesAreMarked (body : List ℕ) (rows samples i : ℕ) (items : List ℤ) : Type 0 where
+  pub few : length items ≤ samples
+  pub rises : rise (length items) samples (numbers_from rows body i) ≡ rise 0 samples (numbers_from rows body 0)
+  pub marked : items ++ gaps (length items) samples (numbers_from rows body i) ≡ gaps 0 samples (numbers_from rows body 0)
 
-pub record AfterMark (new all : List ℤ) (most : ℕ) (rest : List ℕ) (whole : Bool) : Type 0 where
-  pub few : length new ≤ most
-  pub rises : rise (length new) most rest ≡ whole
-  pub marked : new ++ gaps (length new) most rest ≡ all
+pub none_is_marked : {body : List ℕ} {rows samples : ℕ} {items : List ℤ} → items ≡ [] → SamplesAreMarked body rows samples 0 items
+none_is_marked e = rw e (record { few = omega arith; rises = refl; marked = refl })
 
-pub mark_step : (items new all : List ℤ) (most number : ℕ) (rest : List ℕ) (whole : Bool) → length items < number → number ≤ most → new ≡ (items ++ replicate (number - 1 - length items) (pos 0)) ++ pos 1 ∷ []
-    → rise (length items) most (number ∷ rest) ≡ whole → items ++ gaps (length items) most (number ∷ rest) ≡ all → AfterMark new all most rest whole
-mark_step items new all most number rest whole above within is rises marked =
-    let zeros_are = replicate (number - 1 - length items) (pos 0) in
-    let len : length new ≡ number =
-    omega (arith, ap length is, length-append (items ++ zeros_are) (pos 1 ∷ []), length-append items zeros_are, length-replicate (number - 1 - length items) (pos 0)) in
+pub sample_is_marked : {body : List ℕ} {rows samples i marked number : ℕ} {items zeros_too new : List ℤ} → SamplesAreMarked body rows samples i items → i < rows → marked ≡ length items → number ≡ u32_at body (8 + 4 * i)
+    → marked < number → number ≤ samples → zeros_too ≡ items ++ replicate (number - 1 - marked) (pos 0) → new ≡ zeros_too ++ pos 1 ∷ [] → SamplesAreMarked body rows samples (i + 1) new
+sample_is_marked {body} {rows} {samples} {i} {marked} {number} {items} {zeros_too} {new} so_far lt count is above within zeros_are new_is =
+    let next : numbers_from rows body i ≡ number ∷ numbers_from rows body (i + 1) = rw (numbers_from-next rows body i lt, is) refl in
+    let long : length new ≡ number =
+    omega (arith, ap length new_is, ap length zeros_are, length-append zeros_too (pos 1 ∷ []), length-append items (replicate (number - 1 - marked) (pos 0)), length-replicate (number - 1 - marked) (pos 0)) in
+    let rises = rw next at so_far.rises in
+    let marks_are = rw (next, ← count) at so_far.marked in
     record {
       few = omega arith;
-      rises = ap (λ (n : ℕ). rise n most rest) len ∙ (sym (rise-next (length items) most number rest above within) ∙ rises);
-      marked = ap (λ (n : ℕ). new ++ gaps n most rest) len ∙ (ap (λ (ys : List ℤ). ys ++ gaps number most rest) is ∙ gaps-next items all (length items) most number rest marked);
+      rises = rw long (sym (rise-next (length items) samples number (numbers_from rows body (i + 1)) (omega arith) within) ∙ rises);
+      marked = rw (long, new_is, zeros_are) (gaps-next items _ marked samples number (numbers_from rows body (i + 1)) marks_are);
     }
 
+-- a number that isn't above those before it, or that is none of a sample
+pub number_is_wrong : {body : List ℕ} {rows samples i marked number : ℕ} {items : List ℤ} → SamplesAreMarked body rows samples i items → i < rows → marked ≡ length items → number ≡ u32_at body (8 + 4 * i)
+    → (number ≤ marked) ⊎ (samples < number) → rise 0 samples (numbers_from rows body 0) ≡ false
+number_is_wrong {body} {rows} {samples} {i} {marked} {number} {items} so_far lt count is wrong =
+    sym so_far.rises ∙ (ap (rise (length items) samples) (numbers_from-next rows body i lt) ∙ by wrong)
+  where
+    by : (number ≤ marked) ⊎ (samples < number) → rise (length items) samples (u32_at body (8 + 4 * i) ∷ numbers_from rows body (i + 1)) ≡ false
+    by (inl low) = rise-low (length items) samples (u32_at body (8 + 4 * i)) (numbers_from rows body (i + 1)) (omega arith)
+    by (inr high) = rise-high (length items) samples (u32_at body (8 + 4 * i)) (numbers_from rows body (i + 1)) (omega arith)
+
 -- ---- the answer
+
+-- a table whose number of rows is answered has no fault
+no_fault : (base count rows : ℕ) (fault : Option Code) (answer : Result ℕ Bad) → answer ≡ placed base (unless fault count) → answer ≡ Ok rows → fault ≡ None
+no_fault base count rows None answer is ok = refl
+no_fault base count rows (Some code) answer is ok = absurd (cc)
 
 order_some : (samples : ℕ) (numbers : List ℕ) → rise 0 samples numbers ≡ false → order_fault samples numbers ≡ Some SyncOrder
 order_some samples numbers e = by (is_rising numbers) (are_samples samples numbers) refl refl
@@ -207,8 +216,21 @@ order_some samples numbers e = by (is_rising numbers) (are_samples samples numbe
     by true false p q = rw (p, q) refl
     by true true p q = absurd (false≢true (sym e ∙ from_zero samples numbers p q))
 
-pub order_wrong : (base samples : ℕ) (body : List ℕ) → table_fault 0 4 body ≡ None → rise 0 samples (numbers_of body) ≡ false → placed base (stss_of samples body) ≡ Err (bad_at SyncOrder base)
-order_wrong base samples body none e = rw (none, order_some samples (numbers_of body) e) refl
+numbers_from-all : (rows : ℕ) (body : List ℕ) → rows ≡ row_count body → numbers_from rows body 0 ≡ numbers_of body
+unfolding numbers_from
+numbers_from-all rows body is = let all : rows - 0 ≡ row_count body = omega arith in ap (λ (n : ℕ). map (λ row. u32_at row 0) (rows_of n 4 (drop 8 body))) all
 
-pub order_right : (base samples : ℕ) (body : List ℕ) → table_fault 0 4 body ≡ None → rise 0 samples (numbers_of body) ≡ true → placed base (stss_of samples body) ≡ Ok (marks samples (numbers_of body))
-order_right base samples body none e = rw (none, rising 0 samples (numbers_of body) e, of_samples 0 samples (numbers_of body) e) refl
+pub numbers_are_refused : (base samples count rows : ℕ) (body : List ℕ) (answer : Result ℕ Bad) → answer ≡ placed base (unless (table_fault 0 4 body) count) → answer ≡ Ok rows → rows ≡ row_count body
+    → rise 0 samples (numbers_from rows body 0) ≡ false → placed base (stss_of samples body) ≡ Err (bad_at SyncOrder base)
+numbers_are_refused base samples count rows body answer found ok is wrong =
+    rw (no_fault base count rows (table_fault 0 4 body) answer found ok, order_some samples (numbers_of body) (ap (rise 0 samples) (sym (numbers_from-all rows body is)) ∙ wrong)) refl
+
+pub all_are_marked : (base samples count rows i marked : ℕ) (body : List ℕ) (answer : Result ℕ Bad) (items new : List ℤ) → answer ≡ placed base (unless (table_fault 0 4 body) count) → answer ≡ Ok rows → rows ≡ row_count body
+    → SamplesAreMarked body rows samples i items → rows ≤ i → marked ≡ length items → new ≡ items ++ replicate (samples - marked) (pos 0) → placed base (stss_of samples body) ≡ Ok new
+all_are_marked base samples count rows i marked body answer items new found ok is so_far le count_is new_is =
+    let numbers = numbers_of body in
+    let whole = numbers_from-all rows body is in
+    let none = numbers_from-none rows body i le in
+    let e : rise 0 samples numbers ≡ true = sym (rw (none, whole, rise-none (length items) samples) at so_far.rises) in
+    let marks_are : new ≡ marks samples numbers = rw (new_is, count_is) ((rw (none, whole, gaps-none (length items) samples) at so_far.marked) ∙ marks_read samples numbers e) in
+    rw (no_fault base count rows (table_fault 0 4 body) answer found ok, rising 0 samples numbers e, of_samples 0 samples numbers e, marks_are) refl

@@ -1,19 +1,20 @@
 -- The marks that are read are those whose numbers were written.
-use Rattle.std.proofs.Common.{◌≡◌, ℕ, zero, suc, ◌+◌, ◌-◌, ◌*◌, ◌^◌, ◌<◌, ◌≤◌, Bool, true, false, cond, List, [], ◌∷◌, ◌++◌, length, map, ℤ, pos, None, Ok, inl, inr, refl, sym, ap, ◌∙◌, arith}
+use Rattle.std.proofs.Common.{◌≡◌, ℕ, suc, ◌+◌, ◌^◌, ◌<◌, ◌≤◌, Bool, true, false, cond, List, [], ◌∷◌, ◌++◌, length, map, ℤ, pos, None, Ok, inl, inr, refl, ap, ◌∙◌, arith}
 use Rattle.std.specs.Prelude.{All}
-use Rattle.std.specs.List.{flat_map, list_any, range_with_len, AllByRecursion}
+use Rattle.std.specs.List.{flat_map, range_with_len, AllByRecursion}
 use Rattle.std.specs.Int.{w32, to_be_bytes}
 use Rattle.std.proofs.lemmas.Bool.{eq-eqb}
 use Rattle.std.proofs.lemmas.Nat.{from_be_bytes-to_be_bytes_4}
-use Rattle.mp_ports.specs.Answer.{unless}
 use Rattle.mp_boxes.specs.declared.field.Field.TheVariants.{U32}
 use Rattle.mp_boxes.specs.Number.{u32_at}
 use Rattle.mp_boxes.specs.Field.{body_bytes}
-use Rattle.mp_times.specs.Table.{table_fault, table_rows}
-use Rattle.mp_times.specs.Sync.{is_rising, are_samples, mark, marks, numbers_of, stss_of}
-use Rattle.mp_times.specs.Written.{IsMark, is_sync, stss_body, sync_numbers}
+use Rattle.mp_boxes.specs.FullBox.{table_fault}
+use Rattle.mp_times.specs.Sync.{mark, numbers_of, stss_of}
+use Rattle.mp_times.specs.Sync.{is_sync}
+use Rattle.mp_times.specs.Written.{IsMark, stss_body, sync_numbers}
 use Rattle.mp_times.proofs.MarksFromNumbers.{rise, rise-none, rise-next, absent, same_behind, rising, of_samples}
-use Rattle.mp_times.proofs.WrittenRows.{written, table-read}
+use Rattle.mp_times.proofs.LeftOut.{few_syncs}
+use Rattle.mp_times.proofs.WrittenRows.{each_item, written, table-read}
 
 -- the bytes of a number
 unfoldable pub number_text : ℕ → List ℕ
@@ -50,14 +51,6 @@ numbers_fit number (x ∷ xs) h = by (numbers_fit (number + 1) xs (omega (arith,
     by rest true = (omega (arith, h), rest)
     by rest false = rest
 
-numbers_few : (number : ℕ) (xs : List ℤ) → length (sync_numbers number xs) ≤ length xs
-numbers_few number [] = omega arith
-numbers_few number (x ∷ xs) = by (numbers_few (number + 1) xs) (is_sync x)
-  where
-    by : length (sync_numbers (number + 1) xs) ≤ length xs → (b : Bool) → length (cond b (number ∷ sync_numbers (number + 1) xs) (sync_numbers (number + 1) xs)) ≤ suc (length xs)
-    by few true = omega arith
-    by few false = omega arith
-
 numbers_rise : (low most number : ℕ) (xs : List ℤ) → low < number → number + length xs ≤ most + 1 → rise low most (sync_numbers number xs) ≡ true
 numbers_rise low most number [] lt h = rise-none low most
 numbers_rise low most number (x ∷ xs) lt h = by (numbers_rise number most (number + 1) xs (omega arith) (omega (arith, h))) (numbers_rise low most (number + 1) xs (omega arith) (omega (arith, h))) (is_sync x)
@@ -80,18 +73,14 @@ marks_back most number (x ∷ xs) h are = by (marks_back most (number + 1) xs (o
         let is : sync_numbers number (x ∷ xs) ≡ number ∷ sync_numbers (number + 1) xs = rw e refl in
         ap (λ (ns : List ℕ). map (mark ns) (range_with_len number (suc (length xs)))) is ∙ rw (e, eq-eqb number number refl) (ap (λ (ys : List ℤ). pos 1 ∷ ys) (same_behind (number + 1) (length xs) number (sync_numbers (number + 1) xs) (omega arith) ∙ rest))
 
-each_mark : (xs : List ℤ) → All IsMark xs → AllByRecursion IsMark xs
-each_mark [] all = tt
-each_mark (x ∷ xs) all = (all 0 (pos 0) (omega arith), each_mark xs (λ i d lt. all (suc i) d (omega (arith, lt))))
-
 pub syncs_read : (xs : List ℤ) → length xs < 2 ^ 32 → All IsMark xs → stss_of (length xs) (stss_body (sync_numbers 1 xs)) ≡ Ok xs
 syncs_read xs few all =
     let numbers = sync_numbers 1 xs in
     let samples = length xs in
-    let r = table-read false 0 4 number_text number_text-len numbers (omega (arith, few, numbers_few 1 xs)) (omega arith) in
+    let r = table-read false 0 4 number_text number_text-len numbers (omega (arith, few, few_syncs 1 xs)) (omega arith) in
     let is = stss_body-written numbers in
     let none : table_fault 0 4 (stss_body numbers) ≡ None = ap (table_fault 0 4) is ∙ r.no_fault in
     let found : numbers_of (stss_body numbers) ≡ numbers =
     ap numbers_of is ∙ (ap (map (λ row. u32_at row 0)) r.rows ∙ numbers_read numbers (numbers_fit 1 xs (omega (arith, few)))) in
     let e = numbers_rise 0 samples 1 xs (omega arith) (omega arith) in
-    rw (none, found, rising 0 samples numbers e, of_samples 0 samples numbers e) (ap (λ (ys : List ℤ). Ok ys) (marks_back samples 1 xs (omega arith) (each_mark xs all)))
+    rw (none, found, rising 0 samples numbers e, of_samples 0 samples numbers e) (ap (λ (ys : List ℤ). Ok ys) (marks_back samples 1 xs (omega arith) (each_item (λ x is. is) xs all)))

@@ -1,27 +1,22 @@
 -- What is read of a table is what was written into it.
-use Rattle.std.proofs.Common.{◌≡◌, ℕ, zero, suc, ◌+◌, ◌-◌, ◌*◌, ◌^◌, ◌<◌, ◌≤◌, Bool, true, false, cond, ◌&&◌, leb, List, [], ◌∷◌, ◌++◌, length, replicate, drop, take, map, get_or, ℤ, pos, Some, None, Ok, Err, inl, inr, refl, sym, ap, subst, ◌∙◌, append_assoc, arith, rules}
-use Rattle.std.specs.Prelude.{negsuc, FitsSigned, All, ◌⊎◌, not}
+use Rattle.std.proofs.Common.{◌≡◌, ℕ, suc, ◌+◌, ◌-◌, ◌*◌, ◌^◌, ◌<◌, ◌≤◌, Bool, true, false, cond, List, [], ◌∷◌, ◌++◌, length, replicate, map, ℤ, pos, None, Ok, inl, inr, refl, sym, ap, ◌∙◌, arith, rules}
+use Rattle.std.specs.Prelude.{negsuc, FitsSigned, All, not}
 use Rattle.std.specs.List.{flat_map, list_all, AllByRecursion}
 use Rattle.std.specs.Int.{w32, to_be_bytes, cast_unsigned, cast_signed, FitsUnsigned}
 use Rattle.std.specs.Ordering.{int_eq}
-use Rattle.std.proofs.lemmas.Bool.{le-ltb, le-leb, leb-true, false≢true}
+use Rattle.std.proofs.lemmas.Bool.{and_parts, le-ltb, le-leb, leb-true, false≢true}
 use Rattle.std.proofs.lemmas.Bool.Decides.{Decides-int_eq}
-use Rattle.std.proofs.lemmas.List.{append-nil, length-append, take_at, drop_at}
+use Rattle.std.proofs.lemmas.List.{length-append, take_at, drop_at}
 use Rattle.std.proofs.lemmas.List.Concat.{flat_map-append}
 use Rattle.std.proofs.lemmas.Nat.{from_be_bytes-to_be_bytes_4}
 use Rattle.std.proofs.lemmas.Int.{ints, to_z-of_z}
 use Rattle.std.proofs.Math.Facts.{Fits-of_z}
-use Rattle.mp_ports.specs.Answer.{unless}
 use Rattle.mp_boxes.specs.Number.{u32_at}
 use Rattle.mp_boxes.specs.Field.{body_bytes, field_bytes}
-use Rattle.mp_times.specs.Table.{version, row_count, rows_of, table_rows, table_fault}
+use Rattle.mp_boxes.specs.FullBox.{version, row_count, rows_of, table_rows, table_fault}
 use Rattle.mp_times.specs.Times.{offset, per_sample, stts_of, ctts_of}
 use Rattle.mp_times.specs.Stretch.{Stretch, items_of, count_of, in_front, stretches}
-use Rattle.mp_times.specs.Written.{FitOffsets, are_signed, is_unsigned, run_row, run_fields, runs_body}
-
-both : (a b : Bool) → (a && b) ≡ true → (a ≡ true) × (b ≡ true)
-both true b e = (refl, e)
-both false b e = absurd (false≢true e)
+use Rattle.mp_times.specs.Written.{FitOffsets, are_signed, is_unsigned, run_row, runs_body}
 
 -- ---- rows that stand one after another
 
@@ -183,9 +178,10 @@ unsigned_kept (negsuc n) h = absurd (omega (arith, ints, h.0))
 signed_kept : (x : ℤ) → FitsSigned w32 x → IsKept (cast_signed w32) x
 signed_kept x h = record { fits = search (rules, Fits-of_z h); kept = to_z-of_z w32 x h }
 
-each_kept : {P : ℤ → Type 0} (value : ℕ → ℤ) → ((x : ℤ) → P x → IsKept value x) → (xs : List ℤ) → All P xs → AllByRecursion (IsKept value) xs
-each_kept value f [] all = tt
-each_kept value f (x ∷ xs) all = (f x (all 0 (pos 0) (omega arith)), each_kept value f xs (λ i d lt. all (suc i) d (omega (arith, lt))))
+-- what holds of each item by its index, one item after another
+pub each_item : {P Q : ℤ → Type 0} → ((x : ℤ) → P x → Q x) → (xs : List ℤ) → All P xs → AllByRecursion Q xs
+each_item f [] all = tt
+each_item f (x ∷ xs) all = (f x (all 0 (pos 0) (omega arith)), each_item f xs (λ i d lt. all (suc i) d (omega (arith, lt))))
 
 by_test : (x : ℤ) → is_unsigned x ≡ true → IsKept pos x
 by_test (pos n) e = let le = leb-true n (2 ^ 32 - 1) e in record { fits = omega (arith, le); kept = refl }
@@ -193,7 +189,7 @@ by_test (negsuc n) e = absurd (false≢true e)
 
 all_by_test : (xs : List ℤ) → list_all is_unsigned xs ≡ true → AllByRecursion (IsKept pos) xs
 all_by_test [] e = tt
-all_by_test (x ∷ xs) e = let p = both (is_unsigned x) (list_all is_unsigned xs) e in (by_test x p.0, all_by_test xs p.1)
+all_by_test (x ∷ xs) e = let p = and_parts (is_unsigned x) (list_all is_unsigned xs) e in (by_test x p.0, all_by_test xs p.1)
 
 test_of : (x : ℤ) → FitsUnsigned w32 x → is_unsigned x ≡ true
 test_of (pos n) h = le-leb n (2 ^ 32 - 1) (omega (arith, ints, h.1))
@@ -207,7 +203,7 @@ all_tests (x ∷ xs) all = rw (test_of x (all 0 (pos 0) (omega arith))) (all_tes
 
 pub durations_read : (xs : List ℤ) → length xs < 2 ^ 32 → All (FitsUnsigned w32) xs → stts_of (runs_body false xs) ≡ Ok xs
 durations_read xs few all =
-    let r = values-read false 0 pos xs few (omega arith) (each_kept pos unsigned_kept xs all) in
+    let r = values-read false 0 pos xs few (omega arith) (each_item unsigned_kept xs all) in
     rw r.no_fault (ap (λ (ys : List ℤ). Ok ys) r.values)
 
 offsets_as : (signed : Bool) (value : ℕ → ℤ) (xs : List ℤ) → offset (cond signed 1 0) ≡ value → AreRead signed 1 value xs → ctts_of (runs_body signed xs) ≡ Ok xs
@@ -221,4 +217,4 @@ offsets_read xs few fits = by (list_all is_unsigned xs) refl fits
     by : (b : Bool) → list_all is_unsigned xs ≡ b → FitOffsets xs → ctts_of (runs_body (not b) xs) ≡ Ok xs
     by true e h = offsets_as false pos xs refl (values-read false 1 pos xs few (omega arith) (all_by_test xs e))
     by false e (inl all) = absurd (false≢true (sym e ∙ all_tests xs all))
-    by false e (inr all) = offsets_as true (cast_signed w32) xs refl (values-read true 1 (cast_signed w32) xs few (omega arith) (each_kept (cast_signed w32) signed_kept xs all))
+    by false e (inr all) = offsets_as true (cast_signed w32) xs refl (values-read true 1 (cast_signed w32) xs few (omega arith) (each_item signed_kept xs all))

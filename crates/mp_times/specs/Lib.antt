@@ -1,4 +1,3 @@
-pub mod Table
 pub mod Times
 pub mod Sync
 pub mod Stretch

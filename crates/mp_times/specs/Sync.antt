@@ -1,11 +1,12 @@
 -- The sync marks of samples, one for each sample (ISO/IEC 14496-12, 8.6.2). What is read is the body of a box.
 use Rattle.std.specs.Prelude.{ℕ, ℤ, pos, Bool, true, not, ◌&&◌, nat_lt, nat_le, ◌==◌, if◌then◌else◌, List, [], ◌∷◌, map, Option, Result}
 use Rattle.std.specs.List.{list_all, list_any, range_with_len}
+use Rattle.std.specs.Ordering.{int_eq}
 use Rattle.mp_ports.specs.declared.code.Code.{Code}
 use Rattle.mp_ports.specs.declared.code.Code.TheVariants.{SyncOrder}
 use Rattle.mp_ports.specs.Answer.{first_code, first_some, unless}
 use Rattle.mp_boxes.specs.Number.{u32_at}
-use Rattle.mp_times.specs.Table.{table_rows, table_fault}
+use Rattle.mp_boxes.specs.FullBox.{table_rows, table_fault}
 
 -- the length of a row: the number of a sync sample
 abbrev pub number_len : ℕ
@@ -36,6 +37,10 @@ stss_fault samples body = first_some (table_fault 0 number_len body ∷ order_fa
 -- 1 where the number of the sample stands there, else 0
 abbrev pub mark : List ℕ → ℕ → ℤ
 mark numbers number = if list_any (λ sync. sync == number) numbers then pos 1 else pos 0
+
+-- a sample is a sync sample where its mark is 1
+abbrev pub is_sync : ℤ → Bool
+is_sync mark = int_eq mark (pos 1)
 
 -- the mark of each of so many samples
 abbrev pub marks : ℕ → List ℕ → List ℤ

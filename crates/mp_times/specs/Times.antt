@@ -1,11 +1,12 @@
--- The durations and the composition offsets of samples, one item for each sample (ISO/IEC 14496-12, 8.6.1). What is read is the body of a box.
-use Rattle.std.specs.Prelude.{ℕ, ℤ, pos, Bool, true, false, List, replicate, Result, ◌==◌, if◌then◌else◌}
+-- The durations and the composition offsets of samples, one item for each sample, and the times that they give (ISO/IEC
+-- 14496-12, 8.6.1). What is read is the body of a box.
+use Rattle.std.specs.Prelude.{ℕ, ℤ, pos, ◌+ℤ◌, Bool, true, false, List, take, replicate, slice_index_or, sum, Result, ◌==◌, if◌then◌else◌}
 use Rattle.std.specs.List.{flat_map, sum_by}
 use Rattle.std.specs.Int.{w32, cast_signed}
 use Rattle.mp_ports.specs.declared.code.Code.{Code}
 use Rattle.mp_ports.specs.Answer.{unless}
 use Rattle.mp_boxes.specs.Number.{u32_at}
-use Rattle.mp_times.specs.Table.{version, table_rows, table_fault}
+use Rattle.mp_boxes.specs.FullBox.{version, table_rows, table_fault}
 
 -- the length of a row: a number of samples, and the value of each of them
 abbrev pub run_len : ℕ
@@ -38,3 +39,11 @@ offset version bits = if version == 1 then cast_signed w32 bits else pos bits
 -- how much later than it is decoded each sample is composed (8.6.1.3)
 abbrev pub ctts_of : List ℕ → Result (List ℤ) Code
 ctts_of body = unless (table_fault (newest_version true) run_len body) (per_sample (offset (version body)) (table_rows run_len body))
+
+-- the decode time of the sample before which there are so many: the sum of the durations of those (8.6.1.2)
+abbrev pub decode_time : List ℕ → ℕ → ℕ
+decode_time durations before = sum (take before durations)
+
+-- the composition time of that sample: its decode time and its offset, where there is none 0 (8.6.1.3)
+abbrev pub composition_time : List ℕ → List ℤ → ℕ → ℤ
+composition_time durations offsets before = pos (decode_time durations before) +ℤ slice_index_or offsets before (pos 0)

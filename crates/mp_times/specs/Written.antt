@@ -1,11 +1,12 @@
 -- The tables of times and of sync samples as they are written (ISO/IEC 14496-12, 8.6).
-use Rattle.std.specs.Prelude.{◌≡◌, ℕ, ℤ, pos, negsuc, ◌+◌, ◌-◌, ◌*◌, ◌^◌, ◌<◌, ◌≤◌, ◌⊎◌, Bool, true, false, not, nat_le, List, [], ◌∷◌, map, length, drop, replicate, slice_index_or, codes, All, FitsSigned, Option, Some, None, if◌then◌else◌}
+use Rattle.std.specs.Prelude.{◌≡◌, ℕ, ℤ, pos, negsuc, ◌+◌, ◌-◌, ◌*◌, ◌^◌, ◌<◌, ◌≤◌, ◌⊎◌, Bool, false, not, nat_le, List, [], ◌∷◌, map, length, drop, replicate, slice_index_or, codes, All, FitsSigned, Option, Some, None, if◌then◌else◌}
 use Rattle.std.specs.List.{flat_map, list_all}
 use Rattle.std.specs.Int.{w32, cast_unsigned, FitsUnsigned}
 use Rattle.std.specs.Ordering.{int_eq}
 use Rattle.mp_boxes.specs.declared.field.Field.{Field}
 use Rattle.mp_boxes.specs.declared.field.Field.TheVariants.{U32}
 use Rattle.mp_boxes.specs.Field.{Part, body_bytes, raw, version_and_flags}
+use Rattle.mp_times.specs.Sync.{is_sync}
 use Rattle.mp_times.specs.Stretch.{Stretch, count_of, stretches}
 
 -- how many samples, and the value of each of them in 32 bits
@@ -40,10 +41,6 @@ ctts offsets = if list_all (int_eq (pos 0)) offsets then None else Some (record 
 -- the offsets of a track fit 32 bits, all without a sign or all with one
 abbrev pub FitOffsets : List ℤ → Type 0
 FitOffsets offsets = All (FitsUnsigned w32) offsets ⊎ All (FitsSigned w32) offsets
-
--- a sample is sync where its mark is 1
-abbrev pub is_sync : ℤ → Bool
-is_sync mark = int_eq mark (pos 1)
 
 -- the numbers of the sync samples, the first sample having this number
 abbrev pub sync_numbers : ℕ → List ℤ → List ℕ

@@ -1,5 +1,5 @@
 // Laws of the tables: a call that does nothing, whose contract is the law.
-ghost use Rattle.std.specs.Prelude.{◌≡◌, ℕ, ℤ, ◌<◌, ◌^◌, All, List, length, Ok, false};
+ghost use Rattle.std.specs.Prelude.{◌≡◌, ℤ, ◌<◌, ◌^◌, All, List, length, Ok, false};
 ghost use Rattle.std.specs.Int.{w32, FitsUnsigned};
 ghost use Rattle.mp_times.specs.Sync.{stss_of};
 ghost use Rattle.mp_times.specs.Times.{ctts_of, stts_of};

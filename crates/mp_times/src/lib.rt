@@ -11,11 +11,11 @@
 //! no memory, nothing changes.
 #![tactic(auto)]
 
+mod copies;
 mod law;
 mod put;
 mod rows;
 mod sync;
-mod table;
 #[cfg(test)]
 mod tests;
 mod times;

@@ -12,15 +12,11 @@ ghost use Rattle.mp_times.specs.Times.{run_len};
 ghost use Rattle.mp_times.specs.Written.{FitOffsets, FitsBits, IsMark, are_signed, ctts, head_len, is_unsigned, runs_body, stss, stss_body, stts, sync_numbers};
 
 use crate::rows::{HEAD_LEN, append_zeros, count_runs, put_runs, put_table_head};
+use crate::sync::NUMBER_LEN;
+use crate::times::RUN_LEN;
 use mp_boxes::{Field, put_fields};
 use mp_columns::Column;
 use mp_ports::NoMemory;
-
-/// The length of a row of a number of samples and the value of each of them.
-const RUN_LEN: u32 = 8;
-
-/// The length of the number of a sample.
-const NUMBER_LEN: u32 = 4;
 
 /// Appends the box `stts` of these durations (ISO/IEC 14496-12, 8.6.1.2), as their longest runs.
 pub fn put_stts<C: Column>(column: &C, out: &mut Vec<u8>) -> Result<(), NoMemory>
@@ -70,7 +66,7 @@ fn put_run_table<C: Column>(
     ensures err { OnErr result (out.new.items ≡ out.old.items) }
 {
     let runs = count_runs(column);
-    let start = append_zeros(out, HEAD_LEN + (RUN_LEN * runs) as usize)?;
+    let start = append_zeros(out, HEAD_LEN + RUN_LEN * runs as usize)?;
     fill_runs(column, kind, signed, runs, &mut out[start..]);
     Ok(())
 }
@@ -94,7 +90,7 @@ fn put_sync_table<C: Column>(column: &C, syncs: u32, out: &mut Vec<u8>) -> Resul
     ensures ok { OnOk result (out.new.items ≡ out.old.items ++ box_bytes (record { kind = codes "stss"; body = stss_body (sync_numbers 1 (C.items column.now)) })) }
     ensures err { OnErr result (out.new.items ≡ out.old.items) }
 {
-    let start = append_zeros(out, HEAD_LEN + (NUMBER_LEN * syncs) as usize)?;
+    let start = append_zeros(out, HEAD_LEN + NUMBER_LEN * syncs as usize)?;
     fill_syncs(column, syncs, &mut out[start..]);
     Ok(())
 }

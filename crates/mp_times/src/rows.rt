@@ -30,14 +30,14 @@ pub fn append_zeros(out: &mut Vec<u8>, count: usize) -> Result<usize, NoMemory>
 }
 
 /// Writes a table up to its rows at the front of `out`.
-pub fn put_table_head(out: &mut [u8], kind: [u8; 4], signed: bool, rows: u32, width: u32)
+pub fn put_table_head(out: &mut [u8], kind: [u8; 4], signed: bool, rows: u32, width: usize)
     requires few { rows ≤ MOST_ITEMS }
     requires narrow { width ≤ 8 }
     requires room { head_len ≤ length out.old }
     ensures { IsFilled out.old out.new head_len (table_head kind signed rows width) }
 {
     let fields = [
-        Field::U32(HEAD_LEN as u32 + width * rows),
+        Field::U32((HEAD_LEN + width * rows as usize) as u32),
         Field::Bytes(&kind),
         Field::version_and_flags(signed, 0),
         Field::U32(rows),

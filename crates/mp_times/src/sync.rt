@@ -1,18 +1,20 @@
 // Sync samples: their numbers, in order.
-ghost use Rattle.std.specs.Prelude.{◌≡◌, ◌≤◌};
-ghost use Rattle.mp_ports.specs.Answer.{Gives};
-ghost use Rattle.mp_boxes.specs.Head.{placed};
+ghost use Rattle.std.specs.Prelude.{◌≤◌};
+ghost use Rattle.mp_ports.specs.Answer.{Gives, placed};
 ghost use Rattle.mp_columns.specs.declared.columns.TheConstants.{MOST_ITEMS};
 ghost use Rattle.mp_times.specs.Sync.{stss_of};
 
-use crate::table::{FIRST_ROW, count_rows, push_copies};
-use mp_boxes::u32_in;
+use crate::copies::push_copies;
+use mp_boxes::{FIRST_ROW, row_count, u32_in};
 use mp_columns::Column;
 use mp_ports::{Bad, Code, Fail};
 use std::alloc::Global;
 
-/// The length of a row.
-const NUMBER_LEN: usize = 4;
+/// The greatest version of `stss`.
+const STSS_VERSION: u32 = 0;
+
+/// The length of a row: the number of a sync sample.
+pub const NUMBER_LEN: usize = 4;
 
 /// 1 for each sample whose number stands in the body of the box `stss` at `base`, 0 for every other of
 /// so many samples (ISO/IEC 14496-12, 8.6.2).
@@ -24,9 +26,9 @@ pub fn read_stss<C: Column>(alloc: Global, body: &[u8], base: u64, samples: u32)
     requires { samples ≤ MOST_ITEMS }
     ensures { Gives (λ column. C.items column) result (placed base (stss_of samples body.now)) }
 {
-    let rows = count_rows(body, base, 0, NUMBER_LEN)?;
+    let rows = row_count(body, STSS_VERSION, NUMBER_LEN, base)?;
     let mut marks = C::new(alloc);
-    for i in 0..rows {
+    for i in 0..rows as usize {
         let number = u32_in(body, FIRST_ROW + NUMBER_LEN * i);
         let marked = marks.len();
         if number <= marked || number > samples {

@@ -1,8 +1,8 @@
 // Each call at a concrete column. The answers were computed by hand from ISO/IEC 14496-12, 8.6.
-ghost use Rattle.std.specs.Prelude.{◌≡◌, ◌≤◌, ◌⊎◌, All, FitsSigned, IfOk, IsTrue, length, pos};
+ghost use Rattle.std.specs.Prelude.{◌≤◌, All, FitsSigned, IfOk, IsTrue, length};
 ghost use Rattle.std.specs.Int.{w32, FitsUnsigned};
 ghost use Rattle.mp_times.specs.Times.{unfolded};
-ghost use Rattle.mp_times.specs.Written.{FitsBits, IsMark};
+ghost use Rattle.mp_times.specs.Written.{IsMark};
 
 use crate::{put_ctts, put_stss, put_stts, read_ctts, read_stss, read_stts, unfolded};
 use mp_columns::{Col, Column, MOST_ITEMS};

@@ -1,13 +1,12 @@
 // Durations and composition offsets: rows of a number of samples and the value of each of them.
-ghost use Rattle.std.specs.Prelude.{◌≡◌, ◌+◌, ◌*◌, ◌<◌, ◌≤◌, ◌^◌, length, drop, IfOk, true, false};
-ghost use Rattle.mp_ports.specs.Answer.{Answers, Gives};
-ghost use Rattle.mp_boxes.specs.Head.{placed};
+ghost use Rattle.std.specs.Prelude.{◌≡◌, ◌+◌, ◌*◌, ◌≤◌, length, drop, IfOk, true, false};
+ghost use Rattle.mp_ports.specs.Answer.{Gives, placed};
 ghost use Rattle.mp_columns.specs.declared.columns.TheConstants.{MOST_ITEMS};
-ghost use Rattle.mp_times.specs.Table.{first_row, rows_of};
+ghost use Rattle.mp_boxes.specs.FullBox.{first_row, rows_of};
 ghost use Rattle.mp_times.specs.Times.{ctts_of, newest_version, offset, per_sample, run_len, sample_count, stts_of, unfolded};
 
-use crate::table::{FIRST_ROW, count_rows, push_copies, version};
-use mp_boxes::u32_in;
+use crate::copies::push_copies;
+use mp_boxes::{FIRST_ROW, row_count, u32_in, version};
 use mp_columns::Column;
 use mp_ports::{Bad, Fail, NoMemory};
 use std::alloc::Global;
@@ -18,8 +17,8 @@ const STTS_VERSION: u32 = 0;
 /// The greatest version of `ctts`.
 const CTTS_VERSION: u32 = 1;
 
-/// The length of a row.
-const RUN_LEN: usize = 8;
+/// The length of a row: a number of samples, and the value of each of them.
+pub const RUN_LEN: usize = 8;
 
 /// The place of the value in a row.
 const VALUE_PLACE: usize = 4;
@@ -30,7 +29,7 @@ const VALUE_PLACE: usize = 4;
 pub fn unfolded(body: &[u8], base: u64, ctts: bool) -> Result<u64, Bad>
     ensures { result ≡ placed base (unfolded ctts body.now) }
 {
-    let rows = count_rows(body, base, newest_version(ctts), RUN_LEN)?;
+    let rows = row_count(body, newest_version(ctts), RUN_LEN, base)?;
     Ok(count_samples(body, rows))
 }
 
@@ -40,13 +39,12 @@ fn newest_version(ctts: bool) -> u32
     if ctts { CTTS_VERSION } else { STTS_VERSION }
 }
 
-fn count_samples(body: &[u8], rows: usize) -> u64
-    requires few { rows < 2 ^ 32 }
-    requires room { first_row + run_len * rows ≤ length body.now }
+fn count_samples(body: &[u8], rows: u32) -> u64
+    requires { first_row + run_len * rows ≤ length body.now }
     ensures { result ≡ sample_count (rows_of rows run_len (drop first_row body.now)) }
 {
     let mut samples = 0;
-    for i in 0..rows {
+    for i in 0..rows as usize {
         samples += u64::from(u32_in(body, FIRST_ROW + RUN_LEN * i));
     }
     samples
@@ -61,7 +59,7 @@ pub fn read_stts<C: Column>(alloc: Global, body: &[u8], base: u64) -> Result<C, 
     requires { IfOk (unfolded false body.now) (λ samples. samples ≤ MOST_ITEMS) }
     ensures { Gives (λ column. C.items column) result (placed base (stts_of body.now)) }
 {
-    let rows = count_rows(body, base, STTS_VERSION, RUN_LEN)?;
+    let rows = row_count(body, STTS_VERSION, RUN_LEN, base)?;
     Ok(read_runs(alloc, body, rows, STTS_VERSION)?)
 }
 
@@ -74,23 +72,18 @@ pub fn read_ctts<C: Column>(alloc: Global, body: &[u8], base: u64) -> Result<C, 
     requires { IfOk (unfolded true body.now) (λ samples. samples ≤ MOST_ITEMS) }
     ensures { Gives (λ column. C.items column) result (placed base (ctts_of body.now)) }
 {
-    let rows = count_rows(body, base, CTTS_VERSION, RUN_LEN)?;
+    let rows = row_count(body, CTTS_VERSION, RUN_LEN, base)?;
     Ok(read_runs(alloc, body, rows, version(body))?)
 }
 
 /// The value of each sample, by so many rows of a table of that version.
-fn read_runs<C: Column>(
-    alloc: Global,
-    body: &[u8],
-    rows: usize,
-    version: u32,
-) -> Result<C, NoMemory>
+fn read_runs<C: Column>(alloc: Global, body: &[u8], rows: u32, version: u32) -> Result<C, NoMemory>
     requires room { first_row + run_len * rows ≤ length body.now }
     requires few { sample_count (rows_of rows run_len (drop first_row body.now)) ≤ MOST_ITEMS }
     ensures { IfOk result (λ column. C.items column ≡ per_sample (offset version) (rows_of rows run_len (drop first_row body.now))) }
 {
     let mut column = C::new(alloc);
-    for i in 0..rows {
+    for i in 0..rows as usize {
         let at = FIRST_ROW + RUN_LEN * i;
         let value = offset(version, u32_in(body, at + VALUE_PLACE));
         push_copies(&mut column, value, u32_in(body, at))?;
