@@ -5,4 +5,4 @@ pub mod RunsAreFound
 pub mod SamplesArePlaced
 pub mod MapFaults
 pub mod ChunksAreWalked
-pub mod TablesAreSound
+pub mod FaultsInOrder

@@ -2,7 +2,7 @@
 use Rattle.std.proofs.Common.{◌≡◌, ℕ, zero, suc, ◌+◌, ◌*◌, ◌<◌, ◌≤◌, List, [], length, map, take, drop, get_or, slice_index, refl, ap, ◌∙◌, arith}
 use Rattle.std.proofs.lemmas.List.{drop-drop, get_or-take, get_or-drop, get_or-map, length-map}
 use Rattle.mp_boxes.specs.Number.{u16_at, u32_at, u64_at}
-use Rattle.mp_chunks.specs.Table.{rows_of}
+use Rattle.mp_boxes.specs.FullBox.{rows_of}
 
 pub length-rows_of : (n w : ℕ) (bytes : List ℕ) → length (rows_of n w bytes) ≡ n
 unfolding rows_of

@@ -1,15 +1,15 @@
 -- A walk finds the run of each chunk, and how many samples the chunks hold.
-use Rattle.std.proofs.Common.{◌≡◌, ℕ, zero, suc, ◌+◌, ◌<◌, Bool, true, false, cond, List, [], ◌∷◌, ◌++◌, length, map, sum, get_or, Option, Some, None, refl, ap, ◌∙◌, arith, inl, inr, filter}
+use Rattle.std.proofs.Common.{◌≡◌, ℕ, zero, suc, ◌+◌, ◌-◌, ◌<◌, ◌≤◌, min, Bool, true, false, cond, List, [], ◌∷◌, ◌++◌, length, map, sum, get_or, Option, Some, None, refl, ap, ◌∙◌, arith, inl, inr, filter}
 use Rattle.std.specs.Prelude.{nat_le}
 use Rattle.std.specs.List.{last_or, range_with_len}
-use Rattle.std.proofs.lemmas.Bool.{cases_lt, le-leb, lt-leb}
+use Rattle.std.proofs.lemmas.Bool.{cases_lt, le-leb, le-ltb, lt-leb, lt-ltb}
 use Rattle.std.proofs.lemmas.List.{map-append}
 use Rattle.std.proofs.lemmas.List.FromFn.{map-range_with_len_more}
 use Rattle.std.proofs.lemmas.List.Sums.{sum_by_push}
 use Rattle.mp_chunks.specs.declared.chunks.ChunkRun.{ChunkRun}
 use Rattle.mp_chunks.specs.Chunks.{begins, no_run, or_no_run, run_at, run_fault, runs_fault, run_of_chunk, runs_of_chunks}
 use Rattle.mp_chunks.specs.Places.{counts_of}
-use Rattle.mp_chunks.specs.Walk.{AreInOrder, IsRunOf, IsNear}
+use Rattle.mp_chunks.specs.Walk.{AreInOrder, IsRunOf, chunks_before}
 use Rattle.mp_chunks.proofs.FirstOfRows.{no_row}
 
 -- ---- without a fault the runs are in order
@@ -69,28 +69,46 @@ run_found runs chunk at order run =
 
 -- ---- one chunk more
 
-pub one_chunk_more : (runs : List ChunkRun) (n at : ℕ) → AreInOrder runs → IsRunOf runs (n + 1) at → runs_of_chunks runs (n + 1) ≡ runs_of_chunks runs n ++ run_at runs at ∷ []
+one_chunk_more : (runs : List ChunkRun) (n : ℕ) (run : ChunkRun) → or_no_run (run_of_chunk runs (n + 1)) ≡ run → runs_of_chunks runs (n + 1) ≡ runs_of_chunks runs n ++ run ∷ []
 unfolding runs_of_chunks
-one_chunk_more runs n at order run =
-    map-range_with_len_more (λ (chunk : ℕ). or_no_run (run_of_chunk runs chunk)) 1 n (n + 1) (omega arith) ∙ ap (λ (r : Option ChunkRun). map (λ (chunk : ℕ). or_no_run (run_of_chunk runs chunk)) (range_with_len 1 n) ++ (or_no_run r ∷ [])) (run_found runs (n + 1) at order run)
+one_chunk_more runs n run e =
+    map-range_with_len_more (λ (chunk : ℕ). or_no_run (run_of_chunk runs chunk)) 1 n (n + 1) (omega arith) ∙ ap (λ (r : ChunkRun). map (λ (chunk : ℕ). or_no_run (run_of_chunk runs chunk)) (range_with_len 1 n) ++ (r ∷ [])) e
 
-pub held_more : (runs : List ChunkRun) (n at : ℕ) → AreInOrder runs → IsRunOf runs (n + 1) at → sum (counts_of (runs_of_chunks runs (n + 1))) ≡ sum (counts_of (runs_of_chunks runs n)) + (run_at runs at).samples
-held_more runs n at order run =
-    ap (λ (chunks : List ChunkRun). sum (counts_of chunks)) (one_chunk_more runs n at order run)
-    ∙ (ap sum (map-append (λ (chunk : ChunkRun). chunk.samples) (runs_of_chunks runs n) (run_at runs at ∷ [])) ∙ sum_by_push (λ (x : ℕ). x) (counts_of (runs_of_chunks runs n)) (run_at runs at).samples)
+pub held_more : (runs : List ChunkRun) (n : ℕ) (run : ChunkRun) → or_no_run (run_of_chunk runs (n + 1)) ≡ run → sum (counts_of (runs_of_chunks runs (n + 1))) ≡ sum (counts_of (runs_of_chunks runs n)) + run.samples
+held_more runs n run e =
+    ap (λ (chunks : List ChunkRun). sum (counts_of chunks)) (one_chunk_more runs n run e)
+    ∙ (ap sum (map-append (λ (chunk : ChunkRun). chunk.samples) (runs_of_chunks runs n) (run ∷ [])) ∙ sum_by_push (λ (x : ℕ). x) (counts_of (runs_of_chunks runs n)) run.samples)
 
 pub held_none : (runs : List ChunkRun) → sum (counts_of (runs_of_chunks runs 0)) ≡ 0
 unfolding runs_of_chunks
 held_none runs = refl
 
--- ---- where a walk stands
+-- ---- the chunks before a run
 
-pub near_first : (runs : List ChunkRun) → AreInOrder runs → 0 < length runs → IsNear runs 1 0
-near_first runs order some = record {
-  inside = some;
-  begun = omega (arith, order.first some);
-  next = λ more. omega (arith, order.rise 0 1 (omega arith) more, order.first some);
+before_run : (runs : List ChunkRun) (all at : ℕ) → at < length runs → chunks_before runs all at ≡ min all ((run_at runs at).first - 1)
+before_run runs all at lt = rw (lt-ltb at (length runs) lt) refl
+
+pub before_end : (runs : List ChunkRun) (all at : ℕ) → length runs ≤ at → chunks_before runs all at ≡ all
+before_end runs all at le = rw (le-ltb at (length runs) le) refl
+
+-- none stands before the first run
+pub before_first : (runs : List ChunkRun) (all : ℕ) → AreInOrder runs → (0 < all → 0 < length runs) → 0 ≡ chunks_before runs all 0
+before_first runs all order some = elim (cases_lt 0 (length runs)) [
+  | inl there ↦ let e = before_run runs all 0 there in let one = order.first there in omega arith
+  | inr none ↦ let e = before_end runs all 0 none in grind arith
+]
+
+-- a chunk behind those before the run, and before those before the next one
+pub run_holds : (runs : List ChunkRun) (all n at : ℕ) → AreInOrder runs → at < length runs → chunks_before runs all at ≤ n → n < chunks_before runs all (at + 1) → n < all → IsRunOf runs (n + 1) at
+run_holds runs all n at order inside le lt less = record {
+  inside = inside;
+  begun = let e = before_run runs all at inside in omega arith;
+  next = λ more. let e = before_run runs all (at + 1) more in omega arith;
 }
 
-pub near_next : (runs : List ChunkRun) (chunk at : ℕ) → IsRunOf runs chunk at → IsNear runs (chunk + 1) at
-near_next runs chunk at run = record { inside = run.inside; begun = omega (arith, run.begun); next = λ more. omega (arith, run.next more) }
+-- at most all of them
+pub before_within : (runs : List ChunkRun) (all at : ℕ) → chunks_before runs all at ≤ all
+before_within runs all at = elim (cases_lt at (length runs)) [
+  | inl there ↦ let e = before_run runs all at there in omega arith
+  | inr none ↦ let e = before_end runs all at none in omega arith
+]

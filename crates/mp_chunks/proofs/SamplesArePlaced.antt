@@ -12,7 +12,7 @@ use Rattle.mp_chunks.specs.Sizes.{sample_count, common_size, field_bits, halves,
 use Rattle.mp_chunks.specs.Chunks.{no_run, or_no_run, run_at, run_of_chunk, runs_of_chunks}
 use Rattle.mp_chunks.specs.Places.{SamplePlace, counts_of, held, chunk_of, sample_of, samples_of, sample_at, no_sample, is_outside}
 use Rattle.mp_chunks.specs.Answer.{PlacesRecord, columns_of}
-use Rattle.mp_chunks.specs.Walk.{IsWalked}
+use Rattle.mp_chunks.specs.Walk.{ArePlaced}
 use Rattle.mp_chunks.proofs.RowsAreRead.{length-map-rows_of}
 
 -- ---- the number of sizes
@@ -113,9 +113,6 @@ unfolding runs_of_chunks
 held_at runs all n le =
     ap sum (take-map (λ (chunk : ChunkRun). chunk.samples) n (map (λ (chunk : ℕ). or_no_run (run_of_chunk runs chunk)) (range_with_len 1 all)) ∙ ap counts_of (take-map-range_with_len (λ (chunk : ℕ). or_no_run (run_of_chunk runs chunk)) 1 all n le))
 
-pub held_within : (runs : List ChunkRun) (all n : ℕ) → n ≤ all → sum (counts_of (runs_of_chunks runs n)) ≤ sum (counts_of (runs_of_chunks runs all))
-held_within runs all n le = omega (arith, held_at runs all n le, sum_by-take-le (λ x. x) (counts_of (runs_of_chunks runs all)) n)
-
 pub run_of_nth : (runs : List ChunkRun) (all c : ℕ) → c < all → run_at (runs_of_chunks runs all) c ≡ or_no_run (run_of_chunk runs (c + 1))
 unfolding runs_of_chunks
 run_of_nth runs all c lt = get_or-map-range_with_len (λ (chunk : ℕ). or_no_run (run_of_chunk runs chunk)) 1 all c (c + 1) no_run lt (omega arith)
@@ -124,7 +121,7 @@ pub chunks_len : (runs : List ChunkRun) (all : ℕ) → length (runs_of_chunks r
 unfolding runs_of_chunks
 chunks_len runs all = length-map-range_with_len (λ (chunk : ℕ). or_no_run (run_of_chunk runs chunk)) 1 all
 
--- ---- samples that were walked over
+-- ---- samples that were placed
 
 columns_more : (samples : List SamplePlace) (i : ℕ) → i < length samples
     → columns_of (take (i + 1) samples)
@@ -142,25 +139,19 @@ columns_more samples i lt =
     })
 
 -- one sample more
-pub walked_more : (file_size : ℕ) (samples : List SamplePlace) (i size kind from : ℕ) (old new : PlacesRecord) → IsWalked file_size samples i old → i < length samples
+pub placed_more : (file_size : ℕ) (samples : List SamplePlace) (i size kind from : ℕ) (old new : PlacesRecord) → ArePlaced file_size samples i old → i < length samples
     → sample_at samples i ≡ record { size = size; kind = kind; from = from } → is_outside file_size record { size = size; kind = kind; from = from } ≡ false
-    → new ≡ record { sizes = old.sizes ++ pos size ∷ []; kinds = old.kinds ++ pos kind ∷ []; from = old.from ++ from ∷ [] } → IsWalked file_size samples (i + 1) new
-walked_more file_size samples i size kind from old new walked lt e inside n = record {
+    → new ≡ record { sizes = old.sizes ++ pos size ∷ []; kinds = old.kinds ++ pos kind ∷ []; from = old.from ++ from ∷ [] } → ArePlaced file_size samples (i + 1) new
+placed_more file_size samples i size kind from old new placed lt e inside n = record {
   columns = n
-      ∙ (ap (λ (p : PlacesRecord). record { sizes = p.sizes ++ pos size ∷ []; kinds = p.kinds ++ pos kind ∷ []; from = p.from ++ from ∷ [] }) walked.columns
+      ∙ (ap (λ (p : PlacesRecord). record { sizes = p.sizes ++ pos size ∷ []; kinds = p.kinds ++ pos kind ∷ []; from = p.from ++ from ∷ [] }) placed.columns
       ∙ (ap (λ (s : SamplePlace). record { sizes = map (λ sample. pos sample.size) (take i samples) ++ pos s.size ∷ []; kinds = map (λ sample. pos sample.kind) (take i samples) ++ pos s.kind ∷ []; from = map (λ sample. sample.from) (take i samples) ++ s.from ∷ [] }) (sym e)
       ∙ sym (columns_more samples i lt)));
   inside = λ k less. elim (cases_lt k i) [
-    | inl before ↦ walked.inside k before
+    | inl before ↦ placed.inside k before
     | inr here ↦ let same : k ≡ i = omega arith in rw same (ap (is_outside file_size) e ∙ inside)
   ];
 }
-
-pub walked_sizes : (file_size : ℕ) (samples : List SamplePlace) (n : ℕ) (places : PlacesRecord) → IsWalked file_size samples n places → n ≤ length samples → length places.sizes ≡ n
-walked_sizes file_size samples n places walked le = ap (λ (p : PlacesRecord). length p.sizes) walked.columns ∙ (length-map (take n samples) (λ (sample : SamplePlace). pos sample.size) ∙ omega (arith, length-take n samples))
-
-pub walked_kinds : (file_size : ℕ) (samples : List SamplePlace) (n : ℕ) (places : PlacesRecord) → IsWalked file_size samples n places → n ≤ length samples → length places.kinds ≡ n
-walked_kinds file_size samples n places walked le = ap (λ (p : PlacesRecord). length p.kinds) walked.columns ∙ (length-map (take n samples) (λ (sample : SamplePlace). pos sample.kind) ∙ omega (arith, length-take n samples))
 
 -- ---- a sample that is outside, and none
 

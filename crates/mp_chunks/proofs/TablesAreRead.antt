@@ -4,44 +4,44 @@ use Rattle.std.proofs.lemmas.Bool.{ne_eqb}
 use Rattle.std.proofs.lemmas.List.{get_or-take, get_or-drop, get_or-replicate}
 use Rattle.mp_boxes.specs.Number.{u16_at, u32_at, u64_at}
 use Rattle.mp_chunks.specs.declared.chunks.ChunkRun.{ChunkRun}
-use Rattle.mp_chunks.specs.Table.{count_of}
+use Rattle.mp_boxes.specs.FullBox.{row_count}
 use Rattle.mp_chunks.specs.Sizes.{sample_count, common_size, stsz_of, stz2_of, halves, field_bits}
 use Rattle.mp_chunks.specs.Chunks.{offsets_of, stsc_of, run_at, no_run}
 use Rattle.mp_chunks.proofs.RowsAreRead.{get_or-map-rows_of, length-map-rows_of, u16_in_row, u32_in_row, u64_in_row}
 
-pub wide_offset : (wide : Bool) (body : List ℕ) (j : ℕ) → wide ≡ true → j < count_of body → u64_at body (8 + 8 * j) ≡ slice_index (offsets_of wide body) j
+pub wide_offset : (wide : Bool) (body : List ℕ) (j : ℕ) → wide ≡ true → j < row_count body → u64_at body (8 + 8 * j) ≡ slice_index (offsets_of wide body) j
 unfolding offsets_of
 wide_offset wide body j e lt =
     rw e
     (sym
-    (get_or-map-rows_of (λ (row : List ℕ). u64_at row 0) (count_of body) 8 j (drop 8 body) 0 lt ∙ (u64_in_row 8 8 (8 * j) 0 body (omega arith) ∙ ap (u64_at body) (omega arith))))
+    (get_or-map-rows_of (λ (row : List ℕ). u64_at row 0) (row_count body) 8 j (drop 8 body) 0 lt ∙ (u64_in_row 8 8 (8 * j) 0 body (omega arith) ∙ ap (u64_at body) (omega arith))))
 
-pub short_offset : (wide : Bool) (body : List ℕ) (j : ℕ) → wide ≡ false → j < count_of body → u32_at body (8 + 4 * j) ≡ slice_index (offsets_of wide body) j
+pub short_offset : (wide : Bool) (body : List ℕ) (j : ℕ) → wide ≡ false → j < row_count body → u32_at body (8 + 4 * j) ≡ slice_index (offsets_of wide body) j
 unfolding offsets_of
 short_offset wide body j e lt =
     rw e
     (sym
-    (get_or-map-rows_of (λ (row : List ℕ). u32_at row 0) (count_of body) 4 j (drop 8 body) 0 lt ∙ (u32_in_row 4 8 (4 * j) 0 body (omega arith) ∙ ap (u32_at body) (omega arith))))
+    (get_or-map-rows_of (λ (row : List ℕ). u32_at row 0) (row_count body) 4 j (drop 8 body) 0 lt ∙ (u32_in_row 4 8 (4 * j) 0 body (omega arith) ∙ ap (u32_at body) (omega arith))))
 
-pub offsets_len : (wide : Bool) (body : List ℕ) → length (offsets_of wide body) ≡ count_of body
+pub offsets_len : (wide : Bool) (body : List ℕ) → length (offsets_of wide body) ≡ row_count body
 unfolding offsets_of
-offsets_len true body = length-map-rows_of (λ (row : List ℕ). u64_at row 0) (count_of body) 8 (drop 8 body)
-offsets_len false body = length-map-rows_of (λ (row : List ℕ). u32_at row 0) (count_of body) 4 (drop 8 body)
+offsets_len true body = length-map-rows_of (λ (row : List ℕ). u64_at row 0) (row_count body) 8 (drop 8 body)
+offsets_len false body = length-map-rows_of (λ (row : List ℕ). u32_at row 0) (row_count body) 4 (drop 8 body)
 
 -- a run by its three numbers
 same_run : (run other : ChunkRun) → run.first ≡ other.first → run.samples ≡ other.samples → run.entry ≡ other.entry → run ≡ other
 same_run run other p q r = λ i. record { first = p i; samples = q i; entry = r i }
 
-pub run_read : (body : List ℕ) (j first samples entry : ℕ) → j < count_of body → first ≡ u32_at body (8 + 12 * j) → samples ≡ u32_at body (8 + 12 * j + 4) → entry ≡ u32_at body (8 + 12 * j + 8)
+pub run_read : (body : List ℕ) (j first samples entry : ℕ) → j < row_count body → first ≡ u32_at body (8 + 12 * j) → samples ≡ u32_at body (8 + 12 * j + 4) → entry ≡ u32_at body (8 + 12 * j + 8)
     → ◌≡◌ {A = ChunkRun} record { first = first; samples = samples; entry = entry } (run_at (stsc_of body) j)
 unfolding stsc_of
 run_read body j first samples entry lt p q r =
     same_run _ _ (p ∙ sym (u32_in_row 12 8 (12 * j) 0 body (omega arith) ∙ ap (u32_at body) (omega arith))) (q ∙ sym (u32_in_row 12 8 (12 * j) 4 body (omega arith))) (r ∙ sym (u32_in_row 12 8 (12 * j) 8 body (omega arith)))
-    ∙ sym (get_or-map-rows_of (λ (row : List ℕ). record { first = u32_at row 0; samples = u32_at row 4; entry = u32_at row 8 }) (count_of body) 12 j (drop 8 body) no_run lt)
+    ∙ sym (get_or-map-rows_of (λ (row : List ℕ). record { first = u32_at row 0; samples = u32_at row 4; entry = u32_at row 8 }) (row_count body) 12 j (drop 8 body) no_run lt)
 
-pub stsc_len : (body : List ℕ) → length (stsc_of body) ≡ count_of body
+pub stsc_len : (body : List ℕ) → length (stsc_of body) ≡ row_count body
 unfolding stsc_of
-stsc_len body = length-map-rows_of _ (count_of body) 12 (drop 8 body)
+stsc_len body = length-map-rows_of _ (row_count body) 12 (drop 8 body)
 
 pub own_size : (body : List ℕ) (j : ℕ) → u32_at body 4 ≡ 0 → j < sample_count body → u32_at body (12 + 4 * j) ≡ slice_index (stsz_of body) j
 unfolding stsz_of

@@ -1,15 +1,15 @@
 -- What is read from a track's tables of sizes, chunks and places, and their faults in order.
-use Rattle.std.specs.Prelude.{ℕ, ◌==◌, ◌&&◌, not, nat_lt, List, [], ◌∷◌, length, map, sum, Option, Some, None, Result, ℤ, pos}
+use Rattle.std.specs.Prelude.{ℕ, Bool, ◌==◌, ◌&&◌, not, nat_lt, List, [], ◌∷◌, length, map, sum, Option, Result, ℤ, pos}
 use Rattle.std.specs.List.{list_any}
 use Rattle.mp_ports.specs.declared.code.Code.{Code}
 use Rattle.mp_ports.specs.declared.code.Code.TheVariants.{ChunkMap, SampleOutside}
 use Rattle.mp_ports.specs.declared.fault.Bad.{Bad}
-use Rattle.mp_ports.specs.Answer.{bad_at, first_code, first_some, unless}
-use Rattle.mp_boxes.specs.Head.{placed}
+use Rattle.mp_ports.specs.Answer.{fault_at, first_code, first_some, placed, unless}
 use Rattle.mp_boxes.specs.Child.{IsWithin}
 use Rattle.mp_chunks.specs.declared.chunks.ChunkRun.{ChunkRun}
 use Rattle.mp_chunks.specs.declared.tables.Tables.{Tables}
-use Rattle.mp_chunks.specs.Table.{body_of, table_checks}
+use Rattle.mp_boxes.specs.FullBox.{table_fault}
+use Rattle.mp_chunks.specs.Table.{body_of}
 use Rattle.mp_chunks.specs.Sizes.{sample_count, sizes_of, size_checks}
 use Rattle.mp_chunks.specs.Chunks.{offset_len, offsets_of, run_len, stsc_of, runs_fault, runs_of_chunks}
 use Rattle.mp_chunks.specs.Places.{SamplePlace, counts_of, samples_of, is_outside}
@@ -20,7 +20,21 @@ pub record AreWithin (tables : Tables) : Type 0 where
   pub sizes : IsWithin tables.moov.now tables.sizes
   pub offsets : IsWithin tables.moov.now tables.offsets
 
--- the bodies of the three boxes
+-- the bodies of the three boxes, and which of the two types the second and the third are: `stz2`, and `co64`
+pub record Bodies : Type 0 where
+  pub stsc : List ℕ
+  pub sizes : List ℕ
+  pub compact : Bool
+  pub offsets : List ℕ
+  pub wide : Bool
+
+-- each sample by these
+abbrev pub samples_by : Bodies → List SamplePlace
+samples_by bodies =
+    let offsets = offsets_of bodies.wide bodies.offsets in
+    samples_of (runs_of_chunks (stsc_of bodies.stsc) (length offsets)) offsets (sizes_of bodies.compact bodies.sizes)
+
+-- the bodies by their spans
 abbrev pub stsc_body : Tables → List ℕ
 stsc_body tables = body_of tables.moov.now tables.stsc
 
@@ -50,9 +64,13 @@ runs tables = stsc_of (stsc_body tables)
 abbrev pub chunks : Tables → List ChunkRun
 chunks tables = runs_of_chunks (runs tables) (length (offsets tables))
 
+-- all of this
+abbrev pub bodies_of : Tables → Bodies
+bodies_of tables = record { stsc = stsc_body tables; sizes = sizes_body tables; compact = tables.compact; offsets = offsets_body tables; wide = tables.wide }
+
 -- each sample
 abbrev pub samples : Tables → List SamplePlace
-samples tables = samples_of (chunks tables) (offsets tables) (sizes tables)
+samples tables = samples_by (bodies_of tables)
 
 -- there are chunks and no run, or all chunks together don't hold exactly the samples
 unfoldable pub map_fault : List ChunkRun → ℕ → ℕ → Option Code
@@ -66,21 +84,21 @@ map_fault runs chunks samples =
 abbrev pub outside_fault : ℕ → List SamplePlace → Option Code
 outside_fault file_size samples = first_code ((list_any (is_outside file_size) samples, SampleOutside) ∷ [])
 
--- a fault of the box at that place
-abbrev pub fault_at : ℕ → Option Code → Option Bad
-fault_at place None = None
-fault_at place (Some code) = Some (bad_at code place)
-
--- the first fault of the chunks and places, where there are so many entries and the file has so many bytes
-abbrev pub places_fault : ℕ → ℕ → Tables → Option Bad
-places_fault entries file_size tables =
+-- the first fault of the chunks and places, where there are so many entries and the file has so many bytes, and these are the places of
+-- `stsc` and of the other
+abbrev pub bodies_fault : ℕ → ℕ → ℕ → ℕ → Bodies → Option Bad
+bodies_fault entries file_size stsc_place offsets_place bodies =
+    let runs = stsc_of bodies.stsc in
     first_some
-    (fault_at tables.stsc.place (first_code (table_checks run_len (stsc_body tables)))
-    ∷ fault_at tables.offsets.place (first_code (table_checks (offset_len tables.wide) (offsets_body tables)))
-    ∷ fault_at tables.stsc.place (runs_fault entries (runs tables))
-    ∷ fault_at tables.stsc.place (map_fault (runs tables) (length (offsets tables)) (length (sizes tables)))
-    ∷ fault_at tables.offsets.place (outside_fault file_size (samples tables))
+    (fault_at stsc_place (table_fault 0 run_len bodies.stsc)
+    ∷ fault_at offsets_place (table_fault 0 (offset_len bodies.wide) bodies.offsets)
+    ∷ fault_at stsc_place (runs_fault entries runs)
+    ∷ fault_at stsc_place (map_fault runs (length (offsets_of bodies.wide bodies.offsets)) (length (sizes_of bodies.compact bodies.sizes)))
+    ∷ fault_at offsets_place (outside_fault file_size (samples_by bodies))
     ∷ [])
+
+abbrev pub places_fault : ℕ → ℕ → Tables → Option Bad
+places_fault entries file_size tables = bodies_fault entries file_size tables.stsc.place tables.offsets.place (bodies_of tables)
 
 -- the size, the number of the entry and the place of each sample
 pub record PlacesRecord : Type 0 where

@@ -6,7 +6,7 @@ use Rattle.mp_ports.specs.declared.code.Code.TheVariants.{ChunkMap, EntryIndex}
 use Rattle.mp_ports.specs.Answer.{first_code, first_some}
 use Rattle.mp_boxes.specs.Number.{u32_at, u64_at}
 use Rattle.mp_chunks.specs.declared.chunks.ChunkRun.{ChunkRun}
-use Rattle.mp_chunks.specs.Table.{rows}
+use Rattle.mp_boxes.specs.FullBox.{table_rows}
 
 -- the length of an offset: 8 bytes in `co64`, 4 in `stco`
 abbrev pub offset_len : Bool → ℕ
@@ -14,7 +14,7 @@ offset_len wide = if wide then 8 else 4
 
 -- the place of each chunk in the file
 unfoldable pub offsets_of : Bool → List ℕ → List ℕ
-offsets_of wide body = if wide then map (λ row. u64_at row 0) (rows 8 body) else map (λ row. u32_at row 0) (rows 4 body)
+offsets_of wide body = if wide then map (λ row. u64_at row 0) (table_rows 8 body) else map (λ row. u32_at row 0) (table_rows 4 body)
 
 -- the length of a row of `stsc`
 abbrev pub run_len : ℕ
@@ -22,7 +22,7 @@ run_len = 12
 
 -- the runs of chunks, by `stsc`: from this chunk on, a chunk holds so many samples, of this entry
 unfoldable pub stsc_of : List ℕ → List ChunkRun
-stsc_of body = map (λ row. record { first = u32_at row 0; samples = u32_at row 4; entry = u32_at row 8 }) (rows run_len body)
+stsc_of body = map (λ row. record { first = u32_at row 0; samples = u32_at row 4; entry = u32_at row 8 }) (table_rows run_len body)
 
 -- what there is where there is no run: no samples
 abbrev pub no_run : ChunkRun

@@ -3,7 +3,7 @@ use Rattle.std.specs.Prelude.{ℕ, ◌+◌, ◌*◌, ◌/◌, ◌%◌, Bool, tru
 use Rattle.mp_ports.specs.declared.code.Code.{Code}
 use Rattle.mp_ports.specs.declared.code.Code.TheVariants.{TableLength}
 use Rattle.mp_boxes.specs.Number.{u16_at, u32_at}
-use Rattle.mp_chunks.specs.Table.{rows_of, head_checks}
+use Rattle.mp_boxes.specs.FullBox.{rows_of, full_box_checks}
 
 -- how many samples there are
 abbrev pub sample_count : List ℕ → ℕ
@@ -20,7 +20,7 @@ stsz_of body =
 
 -- the faults of `stsz`, in order
 abbrev pub stsz_checks : List ℕ → List (Bool × Code)
-stsz_checks body = head_checks 12 body ++ ((common_size body == 0) && nat_lt (length body) (12 + 4 * sample_count body), TableLength) ∷ []
+stsz_checks body = full_box_checks 0 12 body ++ ((common_size body == 0) && nat_lt (length body) (12 + 4 * sample_count body), TableLength) ∷ []
 
 -- the bits of a size in `stz2`
 abbrev pub field_bits : List ℕ → ℕ
@@ -47,7 +47,7 @@ is_field bits = if bits == 4 then true else (if bits == 8 then true else bits ==
 -- the faults of `stz2`, in order
 abbrev pub stz2_checks : List ℕ → List (Bool × Code)
 stz2_checks body =
-    head_checks 12 body
+    full_box_checks 0 12 body
     ++ (not (is_field (field_bits body)), TableLength)
     ∷ (nat_lt (length body) (12 + (field_bits body * sample_count body + 7) / 8), TableLength)
     ∷ []

@@ -1,16 +1,14 @@
 // The places of samples, chunk by chunk.
-ghost use Rattle.std.specs.Prelude.{◌≡◌, ℕ, ◌+◌, ◌<◌, ◌≤◌, ◌++◌, [], ◌∷◌, length, pos, nat_lt, OnOk, Ok, None};
-ghost use Rattle.mp_ports.specs.Answer.{Checks, Gives, first_code};
-ghost use Rattle.mp_chunks.specs.Answer.{AreWithin, columns_of, count_from, fault_at, map_fault, offsets, places_from, runs, samples, sizes};
-ghost use Rattle.mp_chunks.specs.Table.{IsWhole, count_of};
-ghost use Rattle.mp_chunks.specs.Chunks.{run_len, stsc_of};
-ghost use Rattle.mp_chunks.specs.Walk.{AreInOrder, AreSound, IsChunk, IsWalked, Walks};
+ghost use Rattle.std.specs.Prelude.{◌≡◌, ℕ, ◌+◌, ◌<◌, ◌≤◌, ◌++◌, [], ◌∷◌, length, pos, nat_lt, IfErr, IfOk, OnOk, Err, Ok};
+ghost use Rattle.mp_ports.specs.Answer.{Gives};
+ghost use Rattle.mp_chunks.specs.Answer.{AreWithin, columns_of, count_from, places_from};
+ghost use Rattle.mp_chunks.specs.Walk.{AreRead, HasPlaced, IsChunk, PlacesOrOutside};
 
-use crate::chunks::{RUN_LEN, check_runs, held_samples, next_run, offset_in, offset_len, run_in};
+use crate::chunks::{RUN_LEN, offset_len};
 use crate::sizes::{sample_count, size_in};
-use crate::table::{COUNT_AT, row_count};
 use crate::tables::Tables;
-use mp_boxes::u32_in;
+use crate::walk::{Limits, place_samples};
+use mp_boxes::row_count;
 use mp_columns::{Column, ListColumn, MOST_ITEMS};
 use mp_ports::{Bad, Code, Fail, NoMemory};
 use std::alloc::Global;
@@ -44,22 +42,6 @@ pub(crate) struct Chunk {
     pub(crate) from: u64,
 }
 
-/// Whether all chunks together hold exactly the samples, by the `stsc` at `place`.
-fn check_map(stsc: &[u8], chunks: u32, samples: u64, place: u64) -> Result<(), Bad>
-    requires whole { IsWhole run_len stsc.now }
-    requires order { AreInOrder (stsc_of stsc.now) }
-    ensures { Checks result (fault_at place (map_fault (stsc_of stsc.now) chunks samples)) }
-{
-    let runs = u32_in(stsc, COUNT_AT);
-    if chunks > 0 && runs == 0 {
-        return Err(Bad::at(Code::ChunkMap, place));
-    }
-    if held_samples(stsc, chunks) != samples {
-        return Err(Bad::at(Code::ChunkMap, place));
-    }
-    Ok(())
-}
-
 /// Whether a sample ends behind the end of the file.
 fn is_outside(from: u64, size: u32, file_size: u64) -> bool
     ensures { result ≡ nat_lt file_size (from + size) }
@@ -69,7 +51,7 @@ fn is_outside(from: u64, size: u32, file_size: u64) -> bool
 
 impl Places {
     /// No samples.
-    fn new(alloc: Global) -> Self
+    pub(crate) fn new(alloc: Global) -> Self
         ensures { result ≡ columns_of [] }
     {
         Places {
@@ -91,51 +73,53 @@ impl Places {
         Ok(())
     }
 
-    /// The samples of one chunk more.
-    fn push_chunk(&mut self, tables: &Tables<'_>, chunk: Chunk, file_size: u64) -> Result<(), Fail>
-        requires sound { AreSound tables.now }
+    /// The samples of one chunk more, up to one that ends behind the end of the file; and whether there is
+    /// such a one.
+    pub(crate) fn push_chunk(
+        &mut self,
+        tables: &Tables<'_>,
+        chunk: Chunk,
+        limits: Limits,
+    ) -> Result<bool, NoMemory>
+        requires read { AreRead tables.now limits }
         requires chunk { IsChunk tables.now chunk }
-        requires walked { IsWalked file_size (samples tables.now) chunk.first self.old }
-        ensures { Walks tables.now.offsets.place file_size (samples tables.now) (chunk.first + chunk.count) self.new result }
+        requires placed { HasPlaced tables.now limits.file_size chunk.first self.old }
+        ensures { IfOk result (λ outside. PlacesOrOutside tables.now limits.file_size (chunk.first + chunk.count) outside self.new) }
     {
         let sizes = tables.body(tables.sizes);
         let mut from = chunk.from;
         for before in chunk.first..chunk.first + chunk.count {
             let size = size_in(sizes, tables.compact, before);
-            if is_outside(from, size, file_size) {
-                return Err(Fail::Bad(Bad::at(Code::SampleOutside, tables.offsets.place)));
+            if is_outside(from, size, limits.file_size) {
+                return Ok(true);
             }
             self.push(size, chunk.kind, from)?;
             from += u64::from(size);
         }
-        Ok(())
+        Ok(false)
     }
+}
 
-    /// The samples of all chunks.
-    fn push_chunks(&mut self, tables: &Tables<'_>, chunks: u32, file_size: u64) -> Result<(), Fail>
-        requires sound { AreSound tables.now }
-        requires chunks { chunks ≡ length (offsets tables.now) }
-        requires walked { IsWalked file_size (samples tables.now) 0 self.old }
-        ensures { Walks tables.now.offsets.place file_size (samples tables.now) (length (sizes tables.now)) self.new result }
-    {
-        let stsc = tables.body(tables.stsc);
-        let offsets = tables.body(tables.offsets);
-        let mut at = 0;
-        let mut first = 0;
-        for before in 0..chunks {
-            at = next_run(stsc, at, before + 1);
-            let run = run_in(stsc, at);
-            let chunk = Chunk {
-                first,
-                count: run.samples,
-                kind: run.entry,
-                from: offset_in(offsets, tables.wide, before),
-            };
-            self.push_chunk(tables, chunk, file_size)?;
-            first += run.samples;
-        }
-        Ok(())
-    }
+/// How many runs, chunks and samples there are, where `stsc`, and `stco` or `co64`, have no fault of a table.
+fn read_limits(tables: &Tables<'_>, entries: u32, file_size: u64) -> Result<Limits, Bad>
+    requires within { AreWithin tables.now }
+    requires counted { (n : ℕ) × (count_from tables.now ≡ Ok n) × (n ≤ MOST_ITEMS) }
+    ensures read { IfOk result (λ limits. AreRead tables.now limits) }
+    ensures given { IfOk result (λ limits. (limits.entries ≡ entries) × (limits.file_size ≡ file_size)) }
+    ensures fault { IfErr result (λ bad. places_from entries file_size tables.now ≡ Err bad) }
+{
+    let stsc = tables.body(tables.stsc);
+    let offsets = tables.body(tables.offsets);
+    let runs = row_count(stsc, 0, RUN_LEN, tables.stsc.place)?;
+    let chunks = row_count(offsets, 0, offset_len(tables.wide), tables.offsets.place)?;
+    let samples = sample_count(tables)?;
+    Ok(Limits {
+        entries,
+        runs,
+        chunks,
+        samples,
+        file_size,
+    })
 }
 
 /// The size, the number of the entry and the place of each sample, by the tables of a track with so many
@@ -157,13 +141,6 @@ pub fn read_places(
     requires counted { (n : ℕ) × (count_from tables.now ≡ Ok n) × (n ≤ MOST_ITEMS) }
     ensures { Gives (λ places. places) result (places_from entries file_size tables.now) }
 {
-    let stsc = tables.body(tables.stsc);
-    let offsets = tables.body(tables.offsets);
-    row_count(stsc, RUN_LEN, tables.stsc.place)?;
-    let chunks = row_count(offsets, offset_len(tables.wide), tables.offsets.place)?;
-    check_runs(stsc, entries, tables.stsc.place)?;
-    check_map(stsc, chunks, sample_count(tables)?, tables.stsc.place)?;
-    let mut places = Places::new(alloc);
-    places.push_chunks(tables, chunks, file_size)?;
-    Ok(places)
+    let limits = read_limits(tables, entries, file_size)?;
+    place_samples(alloc, tables, limits)
 }

@@ -1,14 +1,12 @@
 // How long each sample is.
 ghost use Rattle.std.specs.Prelude.{◌≡◌, ◌+◌, ◌/◌, ◌<◌, ◌≤◌, drop, length, slice_index, None};
-ghost use Rattle.mp_ports.specs.Answer.{first_code, unless};
-ghost use Rattle.mp_boxes.specs.Head.{placed};
+ghost use Rattle.mp_ports.specs.Answer.{first_code, unless, placed};
 ghost use Rattle.mp_boxes.specs.Child.{IsWithin};
 ghost use Rattle.mp_chunks.specs.Answer.{count_from};
 ghost use Rattle.mp_chunks.specs.Sizes.{halves, sample_count as count_of_samples, stsz_of, stz2_of, stsz_checks, stz2_checks, size_checks, sizes_of};
 
-use crate::table::check_head;
 use crate::tables::Tables;
-use mp_boxes::{Span, u16_in, u32_in};
+use mp_boxes::{Span, check_full_box, u16_in, u32_in};
 use mp_ports::{Bad, Code};
 
 const COMMON_AT: usize = 4;
@@ -39,7 +37,7 @@ pub fn sample_count(tables: &Tables<'_>) -> Result<u64, Bad>
 fn plain_count(body: &[u8], place: u64) -> Result<u64, Bad>
     ensures { result ≡ placed place (unless (first_code (stsz_checks body.now)) (count_of_samples body.now)) }
 {
-    check_head(body, SIZES_AT, place)?;
+    check_full_box(body, 0, SIZES_AT, place)?;
     let count = u64::from(u32_in(body, COUNT_AT));
     if u32_in(body, COMMON_AT) == 0 && (body.len() as u64) < 12 + 4 * count {
         return Err(Bad::at(Code::TableLength, place));
@@ -50,7 +48,7 @@ fn plain_count(body: &[u8], place: u64) -> Result<u64, Bad>
 fn compact_count(body: &[u8], place: u64) -> Result<u64, Bad>
     ensures { result ≡ placed place (unless (first_code (stz2_checks body.now)) (count_of_samples body.now)) }
 {
-    check_head(body, SIZES_AT, place)?;
+    check_full_box(body, 0, SIZES_AT, place)?;
     let bits = u64::from(body[BITS_AT]);
     if !matches!(bits, 4 | 8 | 16) {
         return Err(Bad::at(Code::TableLength, place));

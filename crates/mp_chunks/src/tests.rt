@@ -130,7 +130,7 @@ fn places_as_by_hand(rt: HostRuntime) -> Result<(), test::Fail> {
     let three_chunks = [0, 3, 100, 200, 300];
     let at_ten = [0, 1, 10];
     let end = [0, 1, u32::MAX, u32::MAX];
-    let rows: [(Case, Wanted); 35] = [
+    let rows: [(Case, Wanted); 40] = [
         // the last sample ends at the end of the file, and one byte behind it
         (
             plain(&two_runs, &ten, &three_chunks, 310),
@@ -281,6 +281,34 @@ fn places_as_by_hand(rt: HostRuntime) -> Result<(), test::Fail> {
         (
             plain(&[0, 2, 1, 1, 2, 1, 1, 1], &one_byte, &at_ten, 11),
             bad(Code::EntryIndex, STSC),
+        ),
+        // a later run that isn't in order, or begins at no chunk
+        (
+            plain(
+                &[0, 3, 1, 1, 1, 3, 1, 1, 2, 1, 1],
+                &[0, 10, 3],
+                &three_chunks,
+                310,
+            ),
+            bad(Code::ChunkMap, STSC),
+        ),
+        (
+            plain(&[0, 2, 1, 1, 1, 0, 1, 1], &one_byte, &at_ten, 11),
+            bad(Code::ChunkMap, STSC),
+        ),
+        // the fault of a later run before too many samples and before a sample that is outside
+        (
+            plain(&[0, 2, 1, 9, 1, 3, 1, 2], &ten, &three_chunks, 310),
+            bad(Code::EntryIndex, STSC),
+        ),
+        (
+            plain(&[0, 2, 1, 2, 1, 3, 1, 2], &ten, &three_chunks, 100),
+            bad(Code::EntryIndex, STSC),
+        ),
+        // too few samples before a sample that is outside
+        (
+            plain(&two_runs, &[0, 10, 6], &three_chunks, 100),
+            bad(Code::ChunkMap, STSC),
         ),
         // versions and lengths: `stsc` first, its version before its length
         (plain(&[], &one_byte, &[], 11), bad(Code::TableLength, STSC)),
