@@ -2,8 +2,6 @@ pub mod Movie
 pub mod Same
 pub mod Answer
 pub mod Children
-pub mod Tables
-pub mod Places
 pub mod Entries
 pub mod SampleTable
 pub mod Present

@@ -1,13 +1,13 @@
--- The movie that a file presents, for files of one track that is shown as it is (ISO/IEC 14496-12, 8.2 to 8.6).
-use Rattle.std.specs.Prelude.{◌≡◌, ℕ, true, List, [], ◌∷◌, length, Option, Some, None, nat_le, ◌==◌, codes}
+-- The movie that a file presents, for files of one track that is shown as it is (ISO/IEC 14496-12, 8.2 to 8.7 and 8.10.1).
+use Rattle.std.specs.Prelude.{◌≡◌, ℕ, true, is_none, List, [], ◌∷◌, length, Option, Some, None, nat_le, ◌==◌, codes}
 use Rattle.std.specs.Result.{result_ok}
-use Rattle.mp_boxes.specs.Number.{u32_at}
+use Rattle.mp_ports.specs.Answer.{first_code}
+use Rattle.mp_boxes.specs.FullBox.{first_row, flags, row_count, full_box_checks}
 use Rattle.mp_boxes.specs.Boxes.{Box, boxes}
 use Rattle.mp_boxes.specs.Child.{of_kind}
 use Rattle.mp_headers.specs.declared.movie_header.Mvhd.{Mvhd}
 use Rattle.mp_headers.specs.declared.track_header.Tkhd.{Tkhd}
 use Rattle.mp_headers.specs.declared.media_header.Mdhd.{Mdhd}
-use Rattle.mp_headers.specs.FullBox.{version}
 use Rattle.mp_headers.specs.MovieHeader.{mvhd_of}
 use Rattle.mp_headers.specs.TrackHeader.{tkhd_of}
 use Rattle.mp_headers.specs.MediaHeader.{mdhd_of}
@@ -26,43 +26,43 @@ pub record Media : Type 0 where
   pub name : List ℕ
   pub table : SampleTable
 
--- the tables of the media information box (8.4.4), with the data references of its data information box (8.7.1)
-unfoldable pub information_of : Box → Option SampleTable
-information_of minf = do
+-- the tables of the media information box (8.4.4), with the data references of its data information box (8.7.1), in a file of so many bytes
+unfoldable pub information_of : ℕ → Box → Option SampleTable
+information_of file_size minf = do
   boxes ← children minf
   dinf ← only (codes "dinf") boxes
   stbl ← only (codes "stbl") boxes
   references ← children dinf
   dref ← only (codes "dref") references
   local ← dref_of dref.body
-  tables_of local stbl
+  tables_of file_size local stbl
 
--- the media box (8.4.1), with its handler box (8.4.3)
-unfoldable pub media_of : Box → Option Media
-media_of mdia = do
+-- the media box (8.4.1), with its handler box (8.4.3), in a file of so many bytes
+unfoldable pub media_of : ℕ → Box → Option Media
+media_of file_size mdia = do
   boxes ← children mdia
   mdhd ← only (codes "mdhd") boxes
   hdlr ← only (codes "hdlr") boxes
   minf ← only (codes "minf") boxes
   head ← result_ok (mdhd_of 0 mdhd.body)
   handler ← result_ok (hdlr_of 0 hdlr.body)
-  table ← information_of minf
+  table ← information_of file_size minf
   Some (record { head = head; handler = handler; name = name_of hdlr.body; table = table })
 
 -- the number of segments in an edit list box (8.6.6), of which there is at most one
-abbrev pub segments_of : List Box → Option ℕ
-segments_of [] = Some 0
-segments_of (elst ∷ []) = do
-  nat_le (version elst.body) 1
-  nat_le 8 (length elst.body)
-  Some (u32_at elst.body 4)
-segments_of _ = None
+abbrev pub segment_count : List Box → Option ℕ
+segment_count [] = Some 0
+segment_count (elst ∷ []) = do
+  is_none (first_code (full_box_checks 1 first_row elst.body))
+  flags elst.body == 0
+  Some (row_count elst.body)
+segment_count _ = None
 
 -- the number of segments in an edit box (8.6.5), of which there is at most one
-abbrev pub edits_of : List Box → Option ℕ
-edits_of [] = Some 0
-edits_of (edts ∷ []) = children edts >>= λ boxes. segments_of (of_kind (codes "elst") boxes)
-edits_of _ = None
+abbrev pub edit_count : List Box → Option ℕ
+edit_count [] = Some 0
+edit_count (edts ∷ []) = children edts >>= λ boxes. segment_count (of_kind (codes "elst") boxes)
+edit_count _ = None
 
 -- the head of a track, by its track header (8.3.2), its media and its user data (8.10.1)
 abbrev pub track_head : Tkhd → Media → List ℕ → TrackHeadRecord
@@ -90,18 +90,17 @@ track_of file trak = do
   boxes ← children trak
   tkhd ← only (codes "tkhd") boxes
   mdia ← only (codes "mdia") boxes
-  segments ← edits_of (of_kind (codes "edts") boxes)
+  segments ← edit_count (of_kind (codes "edts") boxes)
   segments == 0
   head ← result_ok (tkhd_of 0 tkhd.body)
   nat_le 1 head.number
-  media ← media_of mdia
-  samples ← samples_of file media.table
+  media ← media_of (length file) mdia
   Some (record {
     number = head.number;
     head = track_head head media (first_whole (of_kind (codes "udta") boxes));
     scale = media.head.timescale;
     entries = media.table.entries;
-    samples = samples;
+    samples = samples_of file media.table;
     edits = None;
   })
 

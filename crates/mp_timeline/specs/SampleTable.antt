@@ -1,53 +1,68 @@
 -- The samples of a track, by the boxes of its sample table (ISO/IEC 14496-12, 8.5.1).
-use Rattle.std.specs.Prelude.{ℕ, ◌+◌, ◌-◌, ◌+ℤ◌, ℤ, pos, Bool, List, length, map, take, drop, get_or, replicate, slice_index, sum, Option, Some, None, nat_le, ◌&&◌, ◌==◌, if◌then◌else◌, codes}
-use Rattle.std.specs.List.{list_all, range_with_len}
+use Rattle.std.specs.Prelude.{ℕ, ℤ, pos, Bool, is_none, unsigned_abs, List, length, map, take, drop, replicate, slice_index, slice_index_or, Option, Some, None, ◌==◌, codes}
+use Rattle.std.specs.List.{range_with_len}
+use Rattle.std.specs.Result.{result_ok}
 use Rattle.std.specs.Str.{bytes_eq}
+use Rattle.mp_ports.specs.Answer.{first_code}
 use Rattle.mp_boxes.specs.Boxes.{Box}
+use Rattle.mp_times.specs.Times.{stts_of, ctts_of, decode_time, composition_time}
+use Rattle.mp_times.specs.Sync.{stss_of, is_sync}
+use Rattle.mp_chunks.specs.Sizes.{size_checks}
+use Rattle.mp_chunks.specs.Places.{SamplePlace, sample_at}
+use Rattle.mp_chunks.specs.Answer.{Bodies, samples_by, bodies_fault}
 use Rattle.mp_timeline.specs.Movie.{SampleRecord}
-use Rattle.mp_timeline.specs.Answer.{◌>>=◌, ◌>>◌, each}
+use Rattle.mp_timeline.specs.Answer.{◌>>=◌, ◌>>◌}
 use Rattle.mp_timeline.specs.Children.{children, only, at_most_only, only_either}
-use Rattle.mp_timeline.specs.Tables.{stts_of, ctts_of, stss_of, decode_time, is_sync}
-use Rattle.mp_timeline.specs.Places.{stsz_of, stz2_of, stco_of, co64_of, stsc_of, runs_of_chunks, chunk_of, place_of}
 use Rattle.mp_timeline.specs.Entries.{stsd_of}
 
--- the tables, unfolded: an item for each sample, or for each chunk
+-- the tables, unfolded: an item for each sample
 pub record SampleTable : Type 0 where
   pub entries : List (List ℕ)
   pub durations : List ℕ
-  pub offsets : List ℤ
-  pub sync : Option (List ℕ)
-  pub sizes : List ℕ
-  pub places : List ℕ
-  pub counts : List ℕ
-  pub kinds : List ℕ
+  pub composition_offsets : List ℤ
+  pub sync_marks : List ℤ
+  pub places : List SamplePlace
+
+-- the duration of each sample; a column's numbers are whole, and these are natural
+abbrev pub durations_of : Box → Option (List ℕ)
+durations_of stts = do
+  durations ← result_ok (stts_of stts.body)
+  Some (map unsigned_abs durations)
 
 -- without the box each sample is composed when it is decoded
-abbrev pub offsets_of : ℕ → Option Box → Option (List ℤ)
-offsets_of samples None = Some (replicate samples (pos 0))
-offsets_of samples (Some ctts) = ctts_of ctts.body
+abbrev pub composition_offsets_of : ℕ → Option Box → Option (List ℤ)
+composition_offsets_of samples None = Some (replicate samples (pos 0))
+composition_offsets_of samples (Some ctts) = result_ok (ctts_of ctts.body)
 
--- the numbers of the sync samples, where there is the box
-abbrev pub sync_of : Option Box → Option (Option (List ℕ))
-sync_of None = Some None
-sync_of (Some stss) = stss_of stss.body >>= λ numbers. Some (Some numbers)
+-- without the box each sample is a sync sample
+abbrev pub sync_marks_of : ℕ → Option Box → Option (List ℤ)
+sync_marks_of samples None = Some (replicate samples (pos 1))
+sync_marks_of samples (Some stss) = result_ok (stss_of samples stss.body)
 
--- the sizes, by the one of the two boxes that stands there
-abbrev pub sizes_of : Box → Option (List ℕ)
-sizes_of box = if bytes_eq box.kind (codes "stsz") then stsz_of box.body else stz2_of box.body
+-- which of two types the box of sizes and the box of places have: `stz2`, and `co64`
+abbrev pub is_compact : Box → Bool
+is_compact size_box = bytes_eq size_box.kind (codes "stz2")
 
--- the places of the chunks, likewise
-abbrev pub places_of : Box → Option (List ℕ)
-places_of box = if bytes_eq box.kind (codes "stco") then stco_of box.body else co64_of box.body
+abbrev pub is_wide : Box → Bool
+is_wide place_box = bytes_eq place_box.kind (codes "co64")
 
--- each table has an item for each sample, the chunks hold all samples, and each chunk's entry is there
-abbrev pub agree : SampleTable → Bool
-agree table =
-    (length table.durations == length table.sizes) && (length table.offsets == length table.sizes) && (sum table.counts == length table.sizes)
-    && list_all (λ kind. nat_le 1 kind && nat_le kind (length table.entries)) table.kinds
+-- the size, the entry and the place of each sample, where there are so many entries and the file has so many bytes
+unfoldable pub places_of : ℕ → ℕ → Box → Box → Box → Option (List SamplePlace)
+places_of entries file_size size_box stsc place_box = do
+  let bodies : Bodies = record {
+    stsc = stsc.body;
+    sizes = size_box.body;
+    compact = is_compact size_box;
+    offsets = place_box.body;
+    wide = is_wide place_box;
+  }
+  is_none (first_code (size_checks bodies.compact bodies.sizes))
+  is_none (bodies_fault entries file_size 0 0 bodies)
+  Some (samples_by bodies)
 
--- the tables of the boxes in `stbl`, where this says which data references are to the file itself
-unfoldable pub tables_of : List Bool → Box → Option SampleTable
-tables_of local stbl = do
+-- the tables of the boxes in `stbl`, in a file of so many bytes, where this says which data references are to the file itself
+unfoldable pub tables_of : ℕ → List Bool → Box → Option SampleTable
+tables_of file_size local stbl = do
   boxes ← children stbl
   stsd ← only (codes "stsd") boxes
   stts ← only (codes "stts") boxes
@@ -57,44 +72,27 @@ tables_of local stbl = do
   size_box ← only_either (codes "stsz") (codes "stz2") boxes
   place_box ← only_either (codes "stco") (codes "co64") boxes
   entries ← stsd_of local stsd.body
-  durations ← stts_of stts.body
-  sizes ← sizes_of size_box
-  offsets ← offsets_of (length sizes) ctts
-  sync ← sync_of stss
-  places ← places_of place_box
-  runs ← stsc_of stsc.body
-  chunks ← runs_of_chunks runs (length places)
-  Some (record {
-    entries = entries;
-    durations = durations;
-    offsets = offsets;
-    sync = sync;
-    sizes = sizes;
-    places = places;
-    counts = map (λ chunk. chunk.samples) chunks;
-    kinds = map (λ chunk. chunk.entry) chunks;
-  })
+  durations ← durations_of stts
+  places ← places_of (length entries) file_size size_box stsc place_box
+  composition_offsets ← composition_offsets_of (length places) ctts
+  sync_marks ← sync_marks_of (length places) stss
+  length durations == length places
+  length composition_offsets == length places
+  Some (record { entries = entries; durations = durations; composition_offsets = composition_offsets; sync_marks = sync_marks; places = places })
 
--- the sample of this number, counted from 1, where its bytes are in the file
-unfoldable pub sample_of : List ℕ → SampleTable → ℕ → Option SampleRecord
-sample_of file table number = do
-  chunk ← chunk_of table.counts number
-  let before = number - 1
-  let place = place_of table.places table.counts table.sizes chunk number
-  let size = slice_index table.sizes before
-  let decode = decode_time table.durations before
-  nat_le (place + size) (length file)
-  Some (record {
-    bytes = take size (drop place file);
-    decode = decode;
-    dur = slice_index table.durations before;
-    comp = pos decode +ℤ get_or table.offsets before (pos 0);
-    sync = is_sync table.sync number;
-    entry = slice_index table.kinds (chunk - 1);
-  })
+-- the sample of a file before which there are so many
+abbrev pub sample_of : List ℕ → SampleTable → ℕ → SampleRecord
+sample_of file table before =
+    let place = sample_at table.places before in
+    record {
+      bytes = take place.size (drop place.from file);
+      decode = decode_time table.durations before;
+      dur = slice_index table.durations before;
+      comp = composition_time table.durations table.composition_offsets before;
+      sync = is_sync (slice_index_or table.sync_marks before (pos 0));
+      entry = place.kind;
+    }
 
 -- the samples, in the order in which they are decoded
-unfoldable pub samples_of : List ℕ → SampleTable → Option (List SampleRecord)
-samples_of file table = do
-  agree table
-  each (sample_of file table) (range_with_len 1 (length table.sizes))
+unfoldable pub samples_of : List ℕ → SampleTable → List SampleRecord
+samples_of file table = map (sample_of file table) (range_with_len 0 (length table.places))

@@ -1,13 +1,8 @@
 -- A movie of one track that is shown as it is: what an importer of sound makes.
-use Rattle.std.specs.Prelude.{◌≡◌, ◌≢◌, ℕ, pos, ◌+◌, ◌^◌, ◌<◌, ◌≤◌, true, false, List, [], ◌∷◌, ◌++◌, length, All, codes, None}
-use Rattle.std.specs.Str.{bytes_eq}
-use Rattle.mp_boxes.specs.Field.{box_bytes}
+use Rattle.std.specs.Prelude.{◌≡◌, ◌≢◌, ℕ, pos, ◌+◌, ◌^◌, ◌<◌, ◌≤◌, true, List, [], ◌∷◌, length, codes, None}
+use Rattle.mp_boxes.specs.Boxes.{IsBytes}
+use Rattle.mp_entries.specs.Entry.{IsEntry}
 use Rattle.mp_timeline.specs.Movie.{MovieHeadRecord, TrackHeadRecord, SampleRecord, TrackRecord, MovieRecord}
-use Rattle.mp_timeline.specs.Entries.{is_encrypted}
-
--- each is a byte
-abbrev pub AreBytes : List ℕ → Type 0
-AreBytes bytes = All (λ byte. byte < 256) bytes
 
 -- the fields of the head of a movie are in their ranges, and there is no user data
 pub record IsMovieHead (head : MovieHeadRecord) : Type 0 where
@@ -16,7 +11,7 @@ pub record IsMovieHead (head : MovieHeadRecord) : Type 0 where
   pub rate : head.rate < 2 ^ 32
   pub volume : head.volume < 2 ^ 16
   pub matrix_len : length head.matrix ≡ 36
-  pub matrix : AreBytes head.matrix
+  pub matrix : IsBytes head.matrix
   pub udta : head.udta ≡ []
 
 -- the fields of the head of a track are in their ranges, it is no hint track, and there is no user data
@@ -28,37 +23,25 @@ pub record IsTrackHead (head : TrackHeadRecord) : Type 0 where
   pub group : head.group < 2 ^ 16
   pub volume : head.volume < 2 ^ 16
   pub matrix_len : length head.matrix ≡ 36
-  pub matrix : AreBytes head.matrix
+  pub matrix : IsBytes head.matrix
   pub width : head.width < 2 ^ 32
   pub height : head.height < 2 ^ 32
   pub media_created : head.media_created < 2 ^ 64
   pub media_modified : head.media_modified < 2 ^ 64
   pub language : head.language < 2 ^ 16
   pub handler_len : length head.handler ≡ 4
-  pub handler : AreBytes head.handler
+  pub handler : IsBytes head.handler
   pub not_hint : head.handler ≢ codes "hint"
   pub name_len : length head.name < 2 ^ 16
-  pub name : AreBytes head.name
+  pub name : IsBytes head.name
   pub udta : head.udta ≡ []
 
--- a sample entry (8.5.2): a box that isn't of a protected type, with six reserved bytes and then data reference index 1
-pub record IsEntry (entry : List ℕ) : Type 0 where
-  pub kind : List ℕ
-  pub reserved : List ℕ
-  pub rest : List ℕ
-  pub whole : entry ≡ box_bytes (record { kind = kind; body = reserved ++ (0 ∷ 1 ∷ rest) })
-  pub kind_len : length kind ≡ 4
-  pub not_uuid : bytes_eq kind (codes "uuid") ≡ false
-  pub not_encrypted : is_encrypted kind ≡ false
-  pub reserved_len : length reserved ≡ 6
-  pub rest_fits : length rest < 2 ^ 24
-
--- the samples from this decode time on are shown as they are decoded, all sync, all of entry 1
+-- the samples from this decode time on are composed when they are decoded, all sync, all of entry 1
 abbrev pub ArePlain : ℕ → List SampleRecord → Type 0
 ArePlain decode [] = Unit
 ArePlain decode (sample ∷ samples) =
     (sample.decode ≡ decode) × (sample.comp ≡ pos decode) × (sample.sync ≡ true) × (sample.entry ≡ 1)
-    × (sample.dur < 2 ^ 32) × (length sample.bytes < 2 ^ 32) × AreBytes sample.bytes × ArePlain (decode + sample.dur) samples
+    × (sample.dur < 2 ^ 32) × (length sample.bytes < 2 ^ 32) × IsBytes sample.bytes × ArePlain (decode + sample.dur) samples
 
 -- a track of one entry and at least one sample, without edits
 pub record IsPlainTrack (track : TrackRecord) : Type 0 where
@@ -70,6 +53,8 @@ pub record IsPlainTrack (track : TrackRecord) : Type 0 where
   pub entry : List ℕ
   pub one_entry : track.entries ≡ entry ∷ []
   pub entry_is : IsEntry entry
+  pub entry_bytes : IsBytes entry
+  pub entry_fits : length entry < 2 ^ 24
   pub some_samples : track.samples ≢ []
   pub few_samples : length track.samples ≤ 8388608
   pub samples : ArePlain 0 track.samples
