@@ -1,5 +1,5 @@
 -- An entry of an edit list, and its faults in order (ISO/IEC 14496-12, 8.6.6).
-use Rattle.std.specs.Prelude.{ℕ, zero, suc, negsuc, int_lt, unsigned_abs, Bool, true, false, not, ◌&&◌, ◌==◌, if◌then◌else◌, List, [], ◌∷◌, drop, Option}
+use Rattle.std.specs.Prelude.{ℕ, negsuc, int_lt, unsigned_abs, Bool, true, false, not, ◌&&◌, ◌==◌, if◌then◌else◌, List, [], ◌∷◌, Option}
 use Rattle.std.specs.Int.{w32, w64, cast_signed}
 use Rattle.std.specs.Ordering.{int_eq}
 use Rattle.mp_ports.specs.declared.code.Code.{Code}
@@ -14,15 +14,10 @@ use Rattle.mp_edits.specs.declared.entry.EditEntry.{EditEntry}
 abbrev pub entry_len : Bool → ℕ
 entry_len wide = if wide then 20 else 12
 
--- the entry at the front of these bytes: segment duration, media time, media rate and its fraction
+-- the entry of a row: segment duration, media time, media rate and its fraction
 abbrev pub entry_of : Bool → List ℕ → EditEntry
-entry_of true bytes = record { duration = u64_at bytes 0; media_time = cast_signed w64 (u64_at bytes 8); rate = u16_at bytes 16; fraction = u16_at bytes 18 }
-entry_of false bytes = record { duration = u32_at bytes 0; media_time = cast_signed w32 (u32_at bytes 4); rate = u16_at bytes 8; fraction = u16_at bytes 10 }
-
--- so many entries, one after another
-unfoldable pub entries_of : Bool → ℕ → List ℕ → List EditEntry
-entries_of wide zero bytes = []
-entries_of wide (suc count) bytes = entry_of wide bytes ∷ entries_of wide count (drop (entry_len wide) bytes)
+entry_of true row = record { duration = u64_at row 0; media_time = cast_signed w64 (u64_at row 8); rate = u16_at row 16; fraction = u16_at row 18 }
+entry_of false row = record { duration = u32_at row 0; media_time = cast_signed w32 (u32_at row 4); rate = u16_at row 8; fraction = u16_at row 10 }
 
 -- the media time −1 stands for nothing
 abbrev pub is_empty : EditEntry → Bool

@@ -9,8 +9,8 @@ use Rattle.mp_boxes.specs.Field.{Part, leaf, time, version_and_flags}
 
 -- a duration, or a media time as a signed number, does not fit 32 bits
 abbrev pub is_long : Segment → Bool
-is_long (Empty dur) = nat_lt 4294967295 dur
-is_long (Media start dur) = nat_lt 4294967295 dur || nat_lt 2147483647 start
+is_long (Empty dur) = nat_lt (2 ^ 32 - 1) dur
+is_long (Media start dur) = nat_lt (2 ^ 32 - 1) dur || nat_lt (2 ^ 31 - 1) start
 
 -- version 1 is written exactly where a segment needs it
 abbrev pub needs_wide : List Segment → Bool

@@ -25,24 +25,24 @@ pub fn entry_len(wide: bool) -> usize
     if wide { 20 } else { 12 }
 }
 
-/// The entry at the front of these bytes.
-pub fn entry_of(wide: bool, bytes: &[u8]) -> EditEntry
-    requires { entry_len wide ≤ length bytes.now }
-    ensures { result ≡ entry_of wide bytes.now }
+/// The entry of a row.
+pub fn entry_of(wide: bool, row: &[u8]) -> EditEntry
+    requires { entry_len wide ≤ length row.now }
+    ensures { result ≡ entry_of wide row.now }
 {
     if wide {
         EditEntry {
-            duration: u64_in(bytes, 0),
-            media_time: u64_in(bytes, 8).cast_signed(),
-            rate: u16_in(bytes, 16),
-            fraction: u16_in(bytes, 18),
+            duration: u64_in(row, 0),
+            media_time: u64_in(row, 8).cast_signed(),
+            rate: u16_in(row, 16),
+            fraction: u16_in(row, 18),
         }
     } else {
         EditEntry {
-            duration: u64::from(u32_in(bytes, 0)),
-            media_time: i64::from(u32_in(bytes, 4).cast_signed()),
-            rate: u16_in(bytes, 8),
-            fraction: u16_in(bytes, 10),
+            duration: u64::from(u32_in(row, 0)),
+            media_time: i64::from(u32_in(row, 4).cast_signed()),
+            rate: u16_in(row, 8),
+            fraction: u16_in(row, 10),
         }
     }
 }

@@ -1,6 +1,6 @@
 //! The writer of the edit list box.
 
-ghost use Rattle.std.specs.Prelude.{◌≡◌, ℕ, ◌+◌, ◌^◌, ◌<◌, ◌≤◌, ◌++◌, ◌*◌, List, length, All, Ok, Some, OnOk, OnErr, IsFalse, false};
+ghost use Rattle.std.specs.Prelude.{◌≡◌, ℕ, ◌+◌, ◌≤◌, ◌++◌, ◌*◌, List, length, All, Ok, Some, OnOk, OnErr, IsFalse, false};
 ghost use Rattle.std.specs.List.{flat_map};
 ghost use Rattle.mp_boxes.specs.Field.{body_bytes, box_bytes};
 ghost use Rattle.mp_boxes.specs.Front.{IsFilled};
@@ -10,18 +10,18 @@ ghost use Rattle.mp_edits.specs.Table.{elst_of};
 ghost use Rattle.mp_edits.specs.Written.{is_long, needs_wide, entry_fields, no_media, elst};
 
 use crate::entry::entry_len;
-use mp_boxes::{Field, put_fields};
+use mp_boxes::{FIRST_ROW, Field, put_fields};
 use mp_ports::NoMemory;
 use mp_timeline::Segment;
 
 /// The last duration that fits version 0.
-const LAST_DURATION: u64 = 4_294_967_295;
+const LAST_DURATION: u64 = u32::MAX as u64;
 
 /// The last start that fits version 0, in which it is a signed number.
-const LAST_START: u64 = 2_147_483_647;
+const LAST_START: u64 = i32::MAX as u64;
 
 /// The length of the box without its entries: size, type, version and flags, count.
-const HEAD: usize = 16;
+const HEAD: usize = 8 + FIRST_ROW;
 
 /// Whether a segment needs version 1.
 fn is_long(segment: &Segment) -> bool

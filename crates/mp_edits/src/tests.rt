@@ -1,6 +1,6 @@
 //! Edit lists byte by byte as ISO/IEC 14496-12, 8.6.6 lays them out, and the answers that they give.
 
-ghost use Rattle.mp_edits.specs.Segments.{IsEditList, total};
+ghost use Rattle.mp_edits.specs.Segments.{IsEditList};
 ghost use Rattle.std.specs.Prelude.{◌≡◌};
 ghost use Rattle.mp_timeline.specs.declared.segment.Segment.TheVariants.{Empty, Media};
 
