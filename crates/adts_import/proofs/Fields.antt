@@ -18,15 +18,11 @@ front_number-append frame after whole =
       get_or_append_left frame after 0 6 (omega arith),
     ) refl
 
-pub bits-append : (frame after : List ℕ) (from count : ℕ) → 7 ≤ length frame → bits (frame ++ after) from count ≡ bits frame from count
-unfolding bits
-bits-append frame after from count whole = rw (front_number-append frame after whole) refl
-
-pub bits-take : (n : ℕ) (rest : List ℕ) (from count : ℕ) → 7 ≤ n → n ≤ length rest → bits (take n rest) from count ≡ bits rest from count
-bits-take n rest from count whole inside =
+pub front_number-take : (n : ℕ) (rest : List ℕ) → 7 ≤ n → n ≤ length rest → front_number (take n rest) ≡ front_number rest
+front_number-take n rest whole inside =
     let long : 7 ≤ length (take n rest) = omega (arith, length-take n rest) in
-    sym (bits-append (take n rest) (drop n rest) from count long) ∙ ap (λ bytes. bits bytes from count) (take-append-drop n rest)
+    sym (front_number-append (take n rest) (drop n rest) long) ∙ ap front_number (take-append-drop n rest)
 
-pub bits-below : (frame : List ℕ) (from count : ℕ) → 0 < 2 ^ count → bits frame from count < 2 ^ count
+pub bits-below : (front from count : ℕ) → 0 < 2 ^ count → bits front from count < 2 ^ count
 unfolding bits
-bits-below frame from count some = mod-lt (front_number frame / 2 ^ (56 - (from + count))) some
+bits-below front from count some = mod-lt (front / 2 ^ (56 - (from + count))) some

@@ -7,7 +7,7 @@ use Rattle.adts_import.specs.Header.{frame_len, header_len}
 use Rattle.adts_import.specs.Frame.{payload}
 use Rattle.adts_import.specs.Sound.{sample, samples_from}
 use Rattle.adts_import.specs.Stream.{next_fault, frames_from}
-use Rattle.adts_import.proofs.Fields.{bits-take}
+use Rattle.adts_import.proofs.Fields.{front_number-take}
 use Rattle.std.proofs.lemmas.List.{drop_all, drop-drop, take_all}
 
 pub frames_from-none : (fuel : ℕ) (file : List ℕ) (k place : ℕ) → frames_from fuel file k place [] ≡ Ok []
@@ -55,7 +55,7 @@ behind-nothing (Err bad) = refl
 
 -- the payload of a frame that is cut off in front
 pub payload-take : (n : ℕ) (rest : List ℕ) → 7 ≤ n → n ≤ length rest → payload (take n rest) ≡ drop (header_len rest) (take n rest)
-payload-take n rest whole inside = rw (bits-take n rest 15 1 whole inside) refl
+payload-take n rest whole inside = rw (front_number-take n rest whole inside) refl
 
 -- the step of the loop that cuts a file, where `done` are the samples so far
 pub behind-fault : (file : List ℕ) (done : List SampleRecord) (at : ℕ) (bad : Bad) → length done ≤ at → at < length file

@@ -1,4 +1,4 @@
-mod Boxes
+mod Bytes
 mod Checks
 mod Fields
 mod Frames

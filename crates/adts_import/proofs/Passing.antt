@@ -4,11 +4,11 @@ use Rattle.std.proofs.lemmas.Bool.{eqb-false, cases_Bool}
 use Rattle.std.proofs.lemmas.Bool.Decides.{nat_tests}
 use Rattle.mp_ports.specs.Answer.{bad_at}
 use Rattle.mp_ports.specs.declared.code.Code.TheVariants.{AdtsChange, SampleLimit}
-use Rattle.adts_import.specs.Header.{bits, protection_absent, sync, layer, profile, frequency_index, channels, frame_len, header_len, more_blocks}
+use Rattle.adts_import.specs.Header.{front_number, protection_absent, sync, layer, profile, frequency_index, channels, frame_len, header_len, more_blocks}
 use Rattle.adts_import.specs.Frame.{configuration, header_checks, header_fault, changes, is_cut, IsFrame}
 use Rattle.adts_import.specs.Stream.{most_frames, next_fault}
 use Rattle.adts_import.proofs.Checks.{AllPass, all_pass, passed, first_some-none, option_map-none, then-none, else-none}
-use Rattle.adts_import.proofs.Fields.{bits-append, bits-take}
+use Rattle.adts_import.proofs.Fields.{front_number-append, front_number-take}
 
 not_false : (test : Bool) → not test ≡ false → test ≡ true
 not_false true e = refl
@@ -72,23 +72,20 @@ has_header rest checks =
 front_frame : (rest : List ℕ) → Has rest → IsFrame (take (frame_len rest) rest)
 front_frame rest has =
     let n = frame_len rest in
-    let same : (from count : ℕ) → bits (take n rest) from count ≡ bits rest from count = λ from count. bits-take n rest from count has.some has.inside in
+    let same : front_number (take n rest) ≡ front_number rest = front_number-take n rest has.some has.inside in
     let len : length (take n rest) ≡ n = omega (arith, length-take n rest, has.inside) in
     record {
-      syncword = same 0 12 ∙ has.syncword;
-      no_layer = same 13 2 ∙ has.no_layer;
-      has_frequency = rw (same 18 4) has.has_frequency;
-      has_channels = rw (same 23 3) has.has_channels;
-      len = same 30 13 ∙ sym len;
-      whole_header = rw (same 15 1, len) has.payload;
-      one_block = same 54 2 ∙ has.one_block;
+      syncword = rw same has.syncword;
+      no_layer = rw same has.no_layer;
+      has_frequency = rw same has.has_frequency;
+      has_channels = rw same has.has_channels;
+      len = rw same (sym len);
+      whole_header = rw (same, len) has.payload;
+      one_block = rw same has.one_block;
     }
 
 front_configuration : (rest : List ℕ) → Has rest → configuration (take (frame_len rest) rest) ≡ configuration rest
-front_configuration rest has =
-    let n = frame_len rest in
-    let same : (from count : ℕ) → bits (take n rest) from count ≡ bits rest from count = λ from count. bits-take n rest from count has.some has.inside in
-    λ i. record { profile = same 16 2 i; frequency_index = same 18 4 i; channels = same 23 3 i }
+front_configuration rest has = rw (front_number-take (frame_len rest) rest has.some has.inside) refl
 
 -- what has no fault begins with a frame
 pub passes : (file : List ℕ) (k place : ℕ) (rest : List ℕ) → next_fault file k place rest ≡ None → Passes file k rest
@@ -114,20 +111,20 @@ pub front_passes : (file : List ℕ) (k place : ℕ) (frame after : List ℕ) �
 unfolding next_fault header_fault
 front_passes file k place frame after is_frame same few =
     let long : 7 ≤ length frame = omega (arith, seven frame, is_frame.whole_header) in
-    let same_bits : (from count : ℕ) → bits (frame ++ after) from count ≡ bits frame from count = λ from count. bits-append frame after from count long in
+    let same_front : front_number (frame ++ after) ≡ front_number frame = front_number-append frame after long in
     let longer : 7 ≤ length (frame ++ after) = omega (arith, length-append frame after) in
     let whole : nat_lt (frame_len frame) (header_len frame) ≡ false = le-ltb (frame_len frame) (header_len frame) (omega (arith, is_frame.len, is_frame.whole_header)) in
     let inside : nat_lt (length (frame ++ after)) (frame_len frame) ≡ false = le-ltb (length (frame ++ after)) (frame_len frame) (omega (arith, is_frame.len, length-append frame after)) in
     let long_enough : nat_lt (length (frame ++ after)) 7 ≡ false = le-ltb (length (frame ++ after)) 7 longer in
-    let synced : not (sync (frame ++ after) == 0xFFF) ≡ false = rw (same_bits 0 12, is_frame.syncword) refl in
-    let no_layer : not (layer (frame ++ after) == 0) ≡ false = rw (same_bits 13 2, is_frame.no_layer) refl in
-    let frequency : nat_lt 12 (frequency_index (frame ++ after)) ≡ false = rw (same_bits 18 4) (le-ltb 12 (frequency_index frame) is_frame.has_frequency) in
-    let some_channels : (channels (frame ++ after) == 0) ≡ false = rw (same_bits 23 3) (ne_eqb (channels frame) 0 (λ e. omega (arith, is_frame.has_channels))) in
-    let uncut : is_cut (frame ++ after) ≡ false = rw (same_bits 30 13, same_bits 15 1, whole, inside) refl in
-    let one_block : not (more_blocks (frame ++ after) == 0) ≡ false = rw (same_bits 54 2, is_frame.one_block) refl in
+    let synced : not (sync (frame ++ after) == 0xFFF) ≡ false = rw (same_front, is_frame.syncword) refl in
+    let no_layer : not (layer (frame ++ after) == 0) ≡ false = rw (same_front, is_frame.no_layer) refl in
+    let frequency : nat_lt 12 (frequency_index (frame ++ after)) ≡ false = rw same_front (le-ltb 12 (frequency_index frame) is_frame.has_frequency) in
+    let some_channels : (channels (frame ++ after) == 0) ≡ false = rw same_front (ne_eqb (channels frame) 0 (λ e. omega (arith, is_frame.has_channels))) in
+    let uncut : is_cut (frame ++ after) ≡ false = rw (same_front, whole, inside) refl in
+    let one_block : not (more_blocks (frame ++ after) == 0) ≡ false = rw (same_front, is_frame.one_block) refl in
     let checks : AllPass (header_checks (frame ++ after)) = (long_enough, (synced, (no_layer, (frequency, (some_channels, (uncut, (one_block, tt))))))) in
     let own : header_fault (frame ++ after) ≡ None = all_pass (header_checks (frame ++ after)) checks in
-    let kept : configuration (frame ++ after) ≡ configuration frame = λ i. record { profile = same_bits 16 2 i; frequency_index = same_bits 18 4 i; channels = same_bits 23 3 i } in
+    let kept : configuration (frame ++ after) ≡ configuration frame = rw same_front refl in
     let unchanged : changes file (frame ++ after) ≡ false = unchanged_configuration file (frame ++ after) (kept ∙ same) in
     let limit : nat_lt k most_frames ≡ true = lt-ltb k most_frames few in
     rw (own, unchanged, limit) refl

@@ -1,23 +1,20 @@
 -- The movie of frames is a movie of one plain track.
-use Rattle.std.proofs.Common.{◌≡◌, ◌≢◌, ◌+◌, ◌*◌, ◌^◌, ◌<◌, ◌≤◌, ℕ, true, nat_lt, nat_le, ◌&&◌, List, [], ◌∷◌, length, drop, get_or, length-drop, codes, ap, subst, refl, arith, lit<, lit≤}
-use Rattle.std.specs.List.{list_all, AllByRecursion}
+use Rattle.std.proofs.Common.{◌≡◌, ◌≢◌, ◌+◌, ◌*◌, ◌^◌, ◌<◌, ◌≤◌, ℕ, nat_lt, nat_le, ◌&&◌, List, [], ◌∷◌, length, get_or, length-drop, codes, ap, subst, refl, arith, lit<, lit≤}
+use Rattle.std.specs.List.{AllByRecursion}
 use Rattle.std.proofs.lemmas.List.Sums.{AllPass-from_list_all}
-use Rattle.std.proofs.lemmas.Bool.{ltb-true}
 use Rattle.std.proofs.lemmas.Bool.Decides.{nat_tests}
-use Rattle.std.proofs.lemmas.List.Elements.{All-drop}
-use Rattle.mp_boxes.specs.Field.{box_bytes}
+use Rattle.mp_boxes.specs.Boxes.{IsBytes}
+use Rattle.mp_entries.specs.Entry.{IsEntry}
 use Rattle.mp_timeline.specs.Movie.{SampleRecord}
 use Rattle.mp_timeline.specs.Plain.{unit_matrix, plain_movie_head, plain_track_head}
-use Rattle.mp_timeline.specs.Single.{AreBytes, IsMovieHead, IsTrackHead, IsEntry, IsSingle, ArePlain}
+use Rattle.mp_timeline.specs.Single.{IsMovieHead, IsTrackHead, IsSingle, ArePlain}
 use Rattle.adts_import.specs.declared.header.Configuration.{Configuration}
 use Rattle.adts_import.specs.Header.{header_len, frequencies}
-use Rattle.adts_import.specs.Entry.{frequency, mp4a, entry_bytes}
+use Rattle.adts_import.specs.Entry.{frequency, entry_bytes}
 use Rattle.adts_import.specs.Frame.{IsConfiguration, payload}
 use Rattle.adts_import.specs.Sound.{samples_from, sound_track, sound_movie}
-
--- a test of each byte of a list that is written out
-pub bytes_are : (bytes : List ℕ) → list_all (λ byte. nat_lt byte 256) bytes ≡ true → AreBytes bytes
-bytes_are bytes tested = λ k d inside. ltb-true (get_or bytes k d) 256 (AllPass-from_list_all (λ byte. nat_lt byte 256) bytes tested k d inside)
+use Rattle.adts_import.specs.Stream.{most_frames}
+use Rattle.adts_import.proofs.Bytes.{IsBytes-tested, IsBytes-drop}
 
 pub movie_head_fits : IsMovieHead plain_movie_head
 movie_head_fits = record {
@@ -26,7 +23,7 @@ movie_head_fits = record {
   rate = lit< tt;
   volume = lit< tt;
   matrix_len = refl;
-  matrix = bytes_are unit_matrix refl;
+  matrix = IsBytes-tested unit_matrix refl;
   udta = refl;
 }
 
@@ -39,23 +36,23 @@ track_head_fits = record {
   group = lit< tt;
   volume = lit< tt;
   matrix_len = refl;
-  matrix = bytes_are unit_matrix refl;
+  matrix = IsBytes-tested unit_matrix refl;
   width = lit< tt;
   height = lit< tt;
   media_created = lit< tt;
   media_modified = lit< tt;
   language = lit< tt;
   handler_len = refl;
-  handler = bytes_are (codes "soun") refl;
+  handler = IsBytes-tested (codes "soun") refl;
   not_hint = λ e. let first : 115 ≡ 104 = ap (λ (b : List ℕ). get_or b 0 0) e in omega arith;
   name_len = lit< tt;
-  name = bytes_are (0 ∷ []) refl;
+  name = IsBytes-tested (0 ∷ []) refl;
   udta = refl;
 }
 
 -- frames that fit a sample
 pub record IsShort (frame : List ℕ) : Type 0 where
-  pub bytes : AreBytes frame
+  pub bytes : IsBytes frame
   pub len : length frame < 2 ^ 32
 
 -- frames from number k on are samples one after another
@@ -71,7 +68,7 @@ plain_samples k (frame ∷ frames) short =
       refl,
       lit< tt,
       shorter,
-      All-drop (λ byte. byte < 256) (header_len frame) frame short.0.bytes,
+      IsBytes-drop (header_len frame) frame short.0.bytes,
       subst (λ (decode : ℕ). ArePlain decode (samples_from (k + 1) frames)) next (plain_samples (k + 1) frames short.1),
     )
 
@@ -81,24 +78,17 @@ frequency_fits c fits =
     let tested = AllPass-from_list_all (λ f. nat_le 1 f && nat_lt f 4294967296) frequencies refl c.frequency_index 0 inside in
     (grind (arith, nat_tests), grind (arith, nat_tests))
 
--- the entry of the sound is a sample entry
-pub entry_fits : (c : Configuration) → IsEntry (entry_bytes c)
-unfolding entry_bytes box_bytes
-entry_fits c = record {
-  kind = codes "mp4a";
-  reserved = 0 ∷ 0 ∷ 0 ∷ 0 ∷ 0 ∷ 0 ∷ [];
-  rest = drop 8 (mp4a c).body;
-  whole = refl;
-  kind_len = refl;
-  not_uuid = refl;
-  not_encrypted = refl;
-  reserved_len = refl;
-  rest_fits = lit< tt;
-}
+-- samples that a plain track can have
+pub record IsSamples (samples : List SampleRecord) : Type 0 where
+  pub some : samples ≢ []
+  pub few : length samples ≤ most_frames
+  pub plain : ArePlain 0 samples
 
-pub sound_single : (c : Configuration) (samples : List SampleRecord) → IsConfiguration c → samples ≢ [] → length samples ≤ 8388608 → ArePlain 0 samples → IsSingle (sound_movie c samples)
+-- where its entry is one, too
+pub sound_single : (c : Configuration) (samples : List SampleRecord) → IsConfiguration c → IsEntry (entry_bytes c) → IsBytes (entry_bytes c) → length (entry_bytes c) < 2 ^ 24 → IsSamples samples
+    → IsSingle (sound_movie c samples)
 unfolding sound_movie
-sound_single c samples fits some few plain = record {
+sound_single c samples fits entry bytes short plain = record {
   scale = lit≤ tt;
   scale_fits = lit< tt;
   head = movie_head_fits;
@@ -112,10 +102,12 @@ sound_single c samples fits some few plain = record {
     scale_fits = (frequency_fits c fits).1;
     entry = entry_bytes c;
     one_entry = refl;
-    entry_is = entry_fits c;
-    some_samples = some;
-    few_samples = few;
-    samples = plain;
+    entry_is = entry;
+    entry_bytes = bytes;
+    entry_fits = short;
+    some_samples = plain.some;
+    few_samples = plain.few;
+    samples = plain.plain;
     edits = refl;
   };
 }

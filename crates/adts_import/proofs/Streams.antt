@@ -9,7 +9,7 @@ use Rattle.mp_ports.specs.declared.fault.Bad.{Bad}
 use Rattle.adts_import.specs.Header.{frame_len}
 use Rattle.adts_import.specs.Frame.{configuration, IsFrame}
 use Rattle.adts_import.specs.Stream.{most_frames, AreFrames, next_fault, frames_from}
-use Rattle.adts_import.proofs.Fields.{bits-append}
+use Rattle.adts_import.proofs.Fields.{front_number-append}
 use Rattle.adts_import.proofs.Frames.{frames_from-none, frames_from-fault, frames_from-frame}
 use Rattle.adts_import.proofs.Passing.{Passes, passes, front_passes, seven}
 
@@ -27,7 +27,7 @@ one_in_front : (fuel : ℕ) (file : List ℕ) (k place : ℕ) (frame after : Lis
 one_in_front fuel file k place frame after is_frame same few =
     let long : 7 ≤ length frame = omega (arith, seven frame, is_frame.whole_header) in
     let some : 0 < length (frame ++ after) = omega (arith, length-append frame after) in
-    let n : frame_len (frame ++ after) ≡ length frame = bits-append frame after 30 13 long ∙ is_frame.len in
+    let n : frame_len (frame ++ after) ≡ length frame = rw (front_number-append frame after long) is_frame.len in
     frames_from-frame fuel file k place (frame ++ after) some (front_passes file k place frame after is_frame same few)
     ∙ rw (n, take-append_seam frame after, drop-append_seam frame after) refl
 

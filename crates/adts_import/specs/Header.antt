@@ -8,41 +8,41 @@ front_number frame = from_be_bytes w64
     (0 ∷ slice_index frame 0 ∷ slice_index frame 1 ∷ slice_index frame 2 ∷ slice_index frame 3
     ∷ slice_index frame 4 ∷ slice_index frame 5 ∷ slice_index frame 6 ∷ [])
 
--- the number in `count` bits of these 56, behind the first `from`
-unfoldable pub bits : List ℕ → ℕ → ℕ → ℕ
-bits frame from count = front_number frame / 2 ^ (56 - (from + count)) % 2 ^ count
+-- the number in `count` bits of a number of 56 bits, behind the first `from`
+unfoldable pub bits : ℕ → ℕ → ℕ → ℕ
+bits front from count = front / 2 ^ (56 - (from + count)) % 2 ^ count
 
 -- syncword
 abbrev pub sync : List ℕ → ℕ
-sync frame = bits frame 0 12
+sync frame = bits (front_number frame) 0 12
 
 -- layer, behind the bit ID
 abbrev pub layer : List ℕ → ℕ
-layer frame = bits frame 13 2
+layer frame = bits (front_number frame) 13 2
 
 -- protection_absent: with 0 a check word of two bytes follows
 abbrev pub protection_absent : List ℕ → ℕ
-protection_absent frame = bits frame 15 1
+protection_absent frame = bits (front_number frame) 15 1
 
 -- profile_ObjectType
 abbrev pub profile : List ℕ → ℕ
-profile frame = bits frame 16 2
+profile frame = bits (front_number frame) 16 2
 
 -- sampling_frequency_index
 abbrev pub frequency_index : List ℕ → ℕ
-frequency_index frame = bits frame 18 4
+frequency_index frame = bits (front_number frame) 18 4
 
 -- channel_configuration, behind private_bit
 abbrev pub channels : List ℕ → ℕ
-channels frame = bits frame 23 3
+channels frame = bits (front_number frame) 23 3
 
 -- aac_frame_length, header included, behind original_copy, home and the two copyright bits
 abbrev pub frame_len : List ℕ → ℕ
-frame_len frame = bits frame 30 13
+frame_len frame = bits (front_number frame) 30 13
 
 -- number_of_raw_data_blocks_in_frame: blocks less 1, behind adts_buffer_fullness of 11 bits
 abbrev pub more_blocks : List ℕ → ℕ
-more_blocks frame = bits frame 54 2
+more_blocks frame = bits (front_number frame) 54 2
 
 -- the bytes of the header
 abbrev pub header_len : List ℕ → ℕ

@@ -1,6 +1,6 @@
 //! The header of an ADTS frame.
 
-ghost use Rattle.std.specs.Prelude.{◌≡◌, ◌+◌, ◌≤◌, ◌<◌, ◌^◌, length, IfOk, Some, None};
+ghost use Rattle.std.specs.Prelude.{◌≡◌, ◌+◌, ◌≤◌, ◌<◌, ◌^◌, ℕ, List, length, IfOk, Some, None};
 ghost use Rattle.mp_ports.specs.Answer.{Checks};
 ghost use Rattle.adts_import.specs.Header.{front_number, bits};
 ghost use Rattle.adts_import.specs.Frame.{header_fault, header_of, IsHeader};
@@ -28,6 +28,7 @@ pub(crate) struct Header {
     pub(crate) frame_len: usize,
 }
 
+/// The first seven bytes as one number.
 #[tactic(auto, unfolding(crate::specs::Header::front_number))]
 fn front_number(frame: &[u8]) -> u64
     requires { 7 ≤ length frame.now }
@@ -38,15 +39,14 @@ fn front_number(frame: &[u8]) -> u64
     ])
 }
 
-/// The field of `count` bits behind the first `from` bits of the header, whose number is `front`.
+/// The field of `count` bits behind the first `from` bits of the header whose number is `front`.
 #[tactic(auto, unfolding(crate::specs::Header::bits))]
-fn bits(frame: &[u8], from: u32, count: u32) -> u64
-    requires whole { 7 ≤ length frame.now }
-    requires inside { from + count ≤ 56 }
-    ensures value { result ≡ bits frame.now from count }
+fn bits(front: u64, from: u32, count: u32) -> u64
+    requires { from + count ≤ 56 }
+    ensures value { result ≡ bits front from count }
     ensures below { result < 2 ^ count }
 {
-    (front_number(frame) >> (56 - (from + count))) & ((1 << count) - 1)
+    (front >> (56 - (from + count))) & ((1 << count) - 1)
 }
 
 /// Reads the header of the frame that `rest` begins with, and tests the frame.
@@ -62,13 +62,14 @@ pub(crate) fn read_header(rest: &[u8]) -> Result<Header, Code>
     if rest.len() < 7 {
         return Err(Code::AdtsCut);
     }
-    if bits(rest, 0, 12) != SYNC {
+    let front = front_number(rest);
+    if bits(front, 0, 12) != SYNC {
         return Err(Code::AdtsSync);
     }
-    if bits(rest, 13, 2) != 0 {
+    if bits(front, 13, 2) != 0 {
         return Err(Code::AdtsLayer);
     }
-    let header = fields_of(rest);
+    let header = fields_of(front);
     if header.configuration.frequency_index > LAST_FREQUENCY_INDEX {
         return Err(Code::AdtsRate);
     }
@@ -78,26 +79,26 @@ pub(crate) fn read_header(rest: &[u8]) -> Result<Header, Code>
     if header.frame_len < header.header_len || rest.len() < header.frame_len {
         return Err(Code::AdtsCut);
     }
-    if bits(rest, 54, 2) != 0 {
+    if bits(front, 54, 2) != 0 {
         return Err(Code::AdtsBlocks);
     }
     Ok(header)
 }
 
-fn fields_of(rest: &[u8]) -> Header
-    requires { 7 ≤ length rest.now }
-    ensures fields { result ≡ header_of rest.now }
+/// The fields of the header whose number is `front`.
+fn fields_of(front: u64) -> Header
+    ensures fields { (frame : List ℕ) → front_number frame ≡ front → result ≡ header_of frame }
     ensures profile { result.configuration.profile < 4 }
     ensures channels { result.configuration.channels < 8 }
     ensures frame_len { result.frame_len < 2 ^ 13 }
 {
     let configuration = Configuration {
-        profile: bits(rest, 16, 2) as u8,
-        frequency_index: bits(rest, 18, 4) as u8,
-        channels: bits(rest, 23, 3) as u8,
+        profile: bits(front, 16, 2) as u8,
+        frequency_index: bits(front, 18, 4) as u8,
+        channels: bits(front, 23, 3) as u8,
     };
-    let header_len = if bits(rest, 15, 1) == 0 { 9 } else { 7 };
-    let frame_len = bits(rest, 30, 13) as usize;
+    let header_len = if bits(front, 15, 1) == 0 { 9 } else { 7 };
+    let frame_len = bits(front, 30, 13) as usize;
     Header {
         configuration,
         header_len,

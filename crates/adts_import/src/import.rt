@@ -7,13 +7,14 @@ ghost use Rattle.mp_ports.specs.Folder.{opened_at};
 ghost use Rattle.mp_ports.specs.Reading.{OnlyReads};
 ghost use Rattle.mp_timeline.specs.Single.{IsSingle};
 ghost use Rattle.adts_import.specs.Frame.{IsConfiguration, IsHeader, configuration as configuration_of, header_of};
+ghost use Rattle.adts_import.specs.Entry.{entry_bytes};
 ghost use Rattle.adts_import.specs.Sound.{sample, sound_movie};
 ghost use Rattle.adts_import.specs.Stream.{most_frames, next_fault, samples_of, stream_movie};
 
 use crate::entry::sound_entry;
 use crate::header::{Configuration, Header, read_header};
 use mp_ports::{Bad, Code, Fail, Folder, ReadFail};
-use mp_timeline::{MovieHead, PlainMovie, PlainSample, PlainTrack, TrackHead};
+use mp_timeline::{EntryBytes, MovieHead, PlainMovie, PlainSample, PlainTrack, TrackHead};
 use std::alloc::{AllocError, Global};
 
 /// The scale of the movie: milliseconds.
@@ -75,7 +76,8 @@ fn read_stream(alloc: Global, bytes: &[u8]) -> Result<PlainMovie, Fail>
         Err(code) => return Err(Fail::Bad(Bad::at(code, 0))),
     };
     let samples = read_frames(alloc, bytes, configuration)?;
-    let movie = make_movie(alloc, configuration, samples)?;
+    let entry = sound_entry(alloc, configuration)?;
+    let movie = make_movie(alloc, configuration, entry, samples)?;
     Ok(movie)
 }
 
@@ -144,18 +146,20 @@ fn make_sample(alloc: Global, number: u32, payload: &[u8]) -> Result<PlainSample
     })
 }
 
-/// The movie of one track of these samples.
+/// The movie of one track of these samples, all of this entry.
 #[tactic(auto, unfolding(crate::specs::Sound::sound_movie))]
 fn make_movie(
     alloc: Global,
     configuration: Configuration,
+    entry: EntryBytes,
     samples: Vec<PlainSample>,
 ) -> Result<PlainMovie, AllocError>
-    requires { IsConfiguration configuration }
+    requires fits { IsConfiguration configuration }
+    requires entry { entry ≡ entry_bytes configuration }
     ensures { IfOk result (λ movie. movie ≡ sound_movie configuration samples.items) }
 {
     let mut entries = Vec::new(alloc);
-    entries.push(sound_entry(alloc, configuration)?)?;
+    entries.push(entry)?;
     let mut tracks = Vec::new(alloc);
     tracks.push(PlainTrack {
         number: 1,

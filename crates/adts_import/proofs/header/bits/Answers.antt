@@ -6,5 +6,5 @@ use Rattle.adts_import.proofs.header.bits.Goals as goal
 pub returns-clause-value : goal.returns-clause-value
 unfolding bits
 returns-clause-value c =
-    let small : c.args.count < 64 = omega (arith, c.requires.inside) in
-    rw (one_shl c.args.count 64 small, and_mask _ c.args.count, c.front_number.ensures) refl
+    let small : c.args.count < 64 = omega (arith, c.requires) in
+    rw (one_shl c.args.count 64 small, and_mask _ c.args.count) refl

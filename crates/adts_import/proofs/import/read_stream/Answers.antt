@@ -1,6 +1,5 @@
-use Rattle.std.proofs.Common.{◌<◌, length, Err, ap, sym, ◌∙◌, arith, rules}
-use Rattle.std.proofs.lemmas.List.Elements.{All-from_get_or}
-use Rattle.mp_timeline.specs.Single.{AreBytes}
+use Rattle.std.proofs.Common.{◌<◌, length, Err, ap, sym, ◌∙◌, rules}
+use Rattle.mp_boxes.specs.Boxes.{IsBytes}
 use Rattle.adts_import.proofs.Laws.{first_fault}
 use Rattle.adts_import.proofs.Plain.{plain_of}
 use Rattle.adts_import.proofs.Singles.{sound_single}
@@ -13,7 +12,9 @@ returns-in-Err-clause-movie c =
 
 pub returns-clause-single : goal.returns-clause-single
 returns-clause-single c =
-    let bytes : AreBytes c.args.bytes.now = All-from_get_or (λ byte. byte < 256) c.args.bytes.now 0 (λ i inside. omega (arith, c.type_inv.bytes i)) in
+    let bytes : IsBytes c.args.bytes.now = λ at. (c.type_inv.bytes at).fits in
     let some : 0 < length c.args.bytes.now = search rules in
     let samples = plain_of c.args.bytes.now c.in_ok-samples.samples.items bytes some c.in_ok-samples.ensures in
-    rw c.in_ok-movie.ensures (sound_single c.in-Ok.first.configuration c.in_ok-samples.samples.items c.in-Ok.ensures.bounds.configuration samples.some samples.few samples.plain)
+    let entry = c.in_ok-entry.ensures in
+    rw c.in_ok-movie.ensures
+    (sound_single c.in-Ok.first.configuration c.in_ok-samples.samples.items c.in-Ok.ensures.bounds.configuration (rw entry.written at entry.well_formed) (rw entry.written at entry.bytes) (rw entry.written at entry.short) samples)
