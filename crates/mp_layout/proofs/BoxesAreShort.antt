@@ -1,6 +1,7 @@
 -- How long the boxes of a movie of one track are: it doesn't depend on where its samples stand, and 32 bits hold it.
-use Rattle.std.proofs.Common.{◌≡◌, ℕ, ◌+◌, ◌*◌, ◌^◌, ◌<◌, ◌≤◌, Bool, true, false, cond, eqb, List, [], ◌∷◌, length, map, refl, ap, arith}
-use Rattle.std.specs.Prelude.{codes, nat_eq}
+use Rattle.std.proofs.Common.{◌≡◌, ℕ, ℤ, pos, suc, ◌+◌, ◌*◌, ◌^◌, ◌<◌, ◌≤◌, Bool, true, false, cond, eqb, List, [], ◌∷◌, length, map, refl, ap, arith}
+use Rattle.std.specs.Prelude.{codes}
+use Rattle.std.specs.Ordering.{int_eq}
 use Rattle.std.specs.Str.{bytes_eq}
 use Rattle.std.proofs.lemmas.List.{length-append, length-map}
 use Rattle.mp_boxes.specs.declared.field.Field.TheVariants.{U16, U32}
@@ -16,10 +17,10 @@ use Rattle.mp_headers.specs.Handler.{hdlr}
 use Rattle.mp_headers.specs.MediaInformation.{media_header, vmhd, smhd, sthd, nmhd}
 use Rattle.mp_headers.specs.DataReference.{dinf}
 use Rattle.mp_timeline.specs.Movie.{SampleRecord}
-use Rattle.mp_layout.specs.Stretch.{Stretch, stretches}
-use Rattle.mp_layout.specs.Tables.{stsd, stsd_body, stts, stts_row, stts_body, stsc, stsc_body, stsz, stsz_body, common_size, chunk_offsets, offsets_body}
+use Rattle.mp_times.specs.Stretch.{Stretch, items_of, in_front, stretches}
+use Rattle.mp_times.specs.Written.{stts, run_row, runs_body}
+use Rattle.mp_layout.specs.Tables.{durations, sizes, stsd, stsd_body, stsc, stsc_body, stsz, stsz_body, common_size, chunk_offsets, offsets_body}
 use Rattle.mp_layout.proofs.Rooms.{mvhd_room, tkhd_room, dinf_room}
-use Rattle.mp_layout.proofs.RunsUnfold.{length-stretches}
 use Rattle.mp_layout.proofs.RowsAreRead.{flat_map-flat_map, length-rows}
 use Rattle.mp_layout.proofs.PlacesAreRead.{fours-spelled, four, four-len}
 use Rattle.mp_layout.proofs.TablesAreRead.{length-boxes, table_parts}
@@ -31,11 +32,23 @@ stsd-len : (entry : List ℕ) → length (stsd_body (entry ∷ [])) ≡ 8 + leng
 unfolding stsd_body
 stsd-len entry = omega (arith, length-append entry [])
 
-stts-len : (durations : List ℕ) → length (stts_body durations) ≤ 8 + 8 * length durations
-unfolding stts_body
-stts-len durations =
-    let runs = stretches nat_eq durations in
-    omega (arith, ap length (flat_map-flat_map field_bytes stts_row runs), length-rows (λ (run : Stretch ℕ). body_bytes (stts_row run)) 8 (λ run. refl) runs, length-stretches nat_eq durations)
+length-in_front : {A : Type 0} (alike : A → A → Bool) (x : A) (runs : List (Stretch A)) → length (in_front alike x runs) ≤ suc (length runs)
+length-in_front alike x [] = omega arith
+length-in_front alike x (run ∷ runs) = by (alike x run.first)
+  where
+    by : (b : Bool) → length (cond b (record { first = x; others = items_of run } ∷ runs) (record { first = x; others = [] } ∷ run ∷ runs)) ≤ suc (suc (length runs))
+    by true = omega arith
+    by false = omega arith
+
+length-stretches : {A : Type 0} (alike : A → A → Bool) (xs : List A) → length (stretches alike xs) ≤ length xs
+length-stretches alike [] = omega arith
+length-stretches alike (x ∷ xs) = omega (arith, length-in_front alike x (stretches alike xs), length-stretches alike xs)
+
+stts-len : (ticks : List ℤ) → length (runs_body false ticks) ≤ 8 + 8 * length ticks
+unfolding runs_body
+stts-len ticks =
+    let runs = stretches int_eq ticks in
+    omega (arith, ap length (flat_map-flat_map field_bytes run_row runs), length-rows (λ (run : Stretch ℤ). body_bytes (run_row run)) 8 (λ run. refl) runs, length-stretches int_eq ticks)
 
 stsc-len : (chunk : Stretch SampleRecord) → length (stsc_body (chunk ∷ [])) ≡ 20
 unfolding stsc_body
@@ -61,7 +74,7 @@ offsets-len false place = refl
 
 -- the tables but for the places
 pub fixed_len : List ℕ → List SampleRecord → Stretch SampleRecord → Bool → ℕ
-fixed_len entry samples chunk wide = 40 + length (stsd (entry ∷ [])).body + length (stts samples).body + length (stsc (chunk ∷ [])).body + length (stsz samples).body + (8 + place_len wide)
+fixed_len entry samples chunk wide = 40 + length (stsd (entry ∷ [])).body + length (stts (durations samples)).body + length (stsc (chunk ∷ [])).body + length (stsz samples).body + (8 + place_len wide)
 
 kind_four : (wide : Bool) (places : List ℕ) → length (chunk_offsets wide places).kind ≡ 4
 kind_four true places = refl
@@ -77,11 +90,11 @@ table-len entry samples chunk wide place =
     let p5 : List Part = chunk_offsets wide (place ∷ []) ∷ [] in
     let p4 : List Part = stsz samples ∷ p5 in
     let p3 : List Part = stsc (chunk ∷ []) ∷ p4 in
-    let p2 : List Part = stts samples ∷ p3 in
+    let p2 : List Part = stts (durations samples) ∷ p3 in
     omega (
       arith,
       length-boxes (stsd (entry ∷ [])) p2 refl,
-      length-boxes (stts samples) p3 refl,
+      length-boxes (stts (durations samples)) p3 refl,
       length-boxes (stsc (chunk ∷ [])) p4 refl,
       length-boxes (stsz samples) p5 refl,
       length-boxes (chunk_offsets wide (place ∷ [])) [] (kind_four wide (place ∷ [])),
@@ -97,10 +110,10 @@ table-short entry samples chunk wide place =
       arith,
       table-len entry samples chunk wide place,
       stsd-len entry,
-      stts-len (map (λ (sample : SampleRecord). sample.dur) samples),
+      stts-len (durations samples),
       stsc-len chunk,
-      stsz-len (map (λ (sample : SampleRecord). length sample.bytes) samples),
-      length-map samples (λ (sample : SampleRecord). sample.dur),
+      stsz-len (sizes samples),
+      length-map samples (λ (sample : SampleRecord). pos sample.dur),
       length-map samples (λ (sample : SampleRecord). length sample.bytes),
       wide_len,
     )

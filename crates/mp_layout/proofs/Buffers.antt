@@ -1,5 +1,5 @@
 -- Boxes that are appended to a buffer.
-use Rattle.std.proofs.Common.{◌≡◌, ℕ, ◌+◌, ◌≤◌, List, [], ◌∷◌, ◌++◌, length, take, drop, sym, ap, arith, append_assoc, append-nil, length-append, length-take}
+use Rattle.std.proofs.Common.{◌≡◌, ℕ, ◌+◌, ◌≤◌, List, [], ◌∷◌, ◌++◌, length, take, drop, refl, sym, ap, arith, append_assoc, append-nil, length-append, length-take}
 use Rattle.std.proofs.lemmas.List.{take-append-le, take_all}
 use Rattle.mp_boxes.specs.Field.{Part, box_bytes, boxes_bytes}
 use Rattle.mp_boxes.specs.Front.{IsFilled}
@@ -72,6 +72,31 @@ boxes_snoc (first ∷ parts) part = rw (boxes_snoc parts part) (sym (append_asso
 pub opened_part : (before now next : List ℕ) (at most more : ℕ) (kind : List ℕ) (parts : List Part) (part : Part) → IsOpen before now at most kind (boxes_bytes parts) → IsAppended now next more (box_bytes part)
     → IsOpen before next at (most + more) kind (boxes_bytes (parts ++ (part ∷ [])))
 opened_part before now next at most more kind parts part o appended = rw (boxes_snoc parts part) (opened_more before now next at most more kind (boxes_bytes parts) (box_bytes part) o appended)
+
+boxes_append : (parts others : List Part) → boxes_bytes (parts ++ others) ≡ boxes_bytes parts ++ boxes_bytes others
+unfolding boxes_bytes
+boxes_append [] others = refl
+boxes_append (first ∷ parts) others = rw (boxes_append parts others) (sym (append_assoc (box_bytes first) (boxes_bytes parts) (boxes_bytes others)))
+
+-- more boxes in a container
+pub opened_parts : (before now next : List ℕ) (at most more : ℕ) (kind : List ℕ) (parts others : List Part) → IsOpen before now at most kind (boxes_bytes parts) → IsAppended now next more (boxes_bytes others)
+    → IsOpen before next at (most + more) kind (boxes_bytes (parts ++ others))
+opened_parts before now next at most more kind parts others o appended = rw (boxes_append parts others) (opened_more before now next at most more kind (boxes_bytes parts) (boxes_bytes others) o appended)
+
+-- a text of at most so many bytes was appended
+pub appended_short : (old new : List ℕ) (most : ℕ) (text : List ℕ) → new ≡ old ++ text → length text ≤ most → IsAppended old new most text
+appended_short old new most text is short =
+    let len = simp length-append at (ap length is) in
+    record { items = is; longer = omega arith; within = omega arith }
+
+-- no box was appended
+pub appended_none : (old : List ℕ) (most : ℕ) → IsAppended old old most (boxes_bytes [])
+unfolding boxes_bytes
+appended_none old most = record { items = sym (append-nil old); longer = omega arith; within = omega arith }
+
+pub boxes_one : (part : Part) → boxes_bytes (part ∷ []) ≡ box_bytes part
+unfolding boxes_bytes
+boxes_one part = append-nil (box_bytes part)
 
 -- a container without boxes yet
 pub opened_none : (before now : List ℕ) (at most : ℕ) (kind : List ℕ) → IsOpen before now at most kind [] → IsOpen before now at most kind (boxes_bytes [])

@@ -4,10 +4,11 @@ use Rattle.std.proofs.lemmas.List.{append-nil}
 use Rattle.mp_boxes.specs.Field.{boxes_bytes}
 use Rattle.mp_timeline.specs.Movie.{SampleRecord, TrackRecord, MovieRecord}
 use Rattle.mp_timeline.specs.Single.{ArePlain}
-use Rattle.mp_layout.specs.Stretch.{Stretch}
+use Rattle.mp_times.specs.Stretch.{Stretch}
+use Rattle.mp_times.specs.Written.{ctts, stss}
 use Rattle.mp_layout.specs.Durations.{movie_duration, track_duration, media_duration, next_track}
 use Rattle.mp_layout.specs.Order.{Chunk, joined, payload}
-use Rattle.mp_layout.specs.Tables.{ctts, stss, stbl, Placing}
+use Rattle.mp_layout.specs.Tables.{composition_offsets, sync_marks, stbl, Placing}
 use Rattle.mp_layout.specs.Moov.{movie_header, track_header, media_head, trak, moov}
 use Rattle.mp_layout.specs.File.{wide_tracks}
 use Rattle.mp_layout.proofs.PlainSamples.{no_offset, all_sync}
@@ -34,10 +35,10 @@ one_flag movie track chunks tracks = record { wide = get_or (wide_tracks movie c
 
 -- ---- plain samples need no further tables
 
-pub no_ctts : (samples : List SampleRecord) → ArePlain 0 samples → ctts samples ≡ None
+pub no_ctts : (samples : List SampleRecord) → ArePlain 0 samples → ctts (composition_offsets samples) ≡ None
 no_ctts samples plain = rw (no_offset 0 samples plain) refl
 
-pub no_stss : (samples : List SampleRecord) → ArePlain 0 samples → stss samples ≡ None
+pub no_stss : (samples : List SampleRecord) → ArePlain 0 samples → stss (sync_marks samples) ≡ None
 no_stss samples plain = rw (all_sync 0 samples plain) refl
 
 -- ---- the boxes
@@ -83,9 +84,9 @@ heads_of movie track = record {
 abbrev pub placing_of : Stretch SampleRecord → Bool → ℕ → Placing
 placing_of chunk wide place = record { chunks = chunk ∷ []; places = place ∷ []; wide = wide }
 
-pub stbl-ok : (track : TrackRecord) (entry : List ℕ) (chunk : Stretch SampleRecord) (wide : Bool) (place : ℕ) → track.entries ≡ entry ∷ [] → ctts track.samples ≡ None → stss track.samples ≡ None
+pub stbl-ok : (track : TrackRecord) (entry : List ℕ) (chunk : Stretch SampleRecord) (wide : Bool) (place : ℕ) → track.entries ≡ entry ∷ [] → ctts (composition_offsets track.samples) ≡ None → stss (sync_marks track.samples) ≡ None
     → (stbl track (placing_of chunk wide place)).body ≡ boxes_bytes (table_parts entry track.samples chunk wide place)
-stbl-ok track entry chunk wide place one offsets sync = rw (one, offsets, sync) refl
+stbl-ok track entry chunk wide place one composed synced = rw (one, composed, synced) refl
 
 pub trak-ok : (movie : MovieRecord) (track : TrackRecord) (placing : Placing) (table : List ℕ) → track.edits ≡ None → track.head.udta ≡ [] → (stbl track placing).body ≡ table
     → (trak movie.scale track placing).body ≡ trak_body (heads_of movie track) table

@@ -1,19 +1,20 @@
 -- The file of a movie of one plain track presents the movie.
-use Rattle.std.proofs.Common.{◌≡◌, ℕ, ◌+◌, ◌*◌, ◌^◌, ◌<◌, ◌≤◌, Bool, true, false, cond, ltb, List, [], ◌∷◌, ◌++◌, length, map, Some, Ok, refl, sym, ap, ◌∙◌, append_assoc, arith}
+use Rattle.std.proofs.Common.{◌≡◌, ℕ, ◌+◌, ◌*◌, ◌^◌, ◌<◌, ◌≤◌, Bool, true, false, cond, ltb, List, [], ◌∷◌, ◌++◌, length, map, pos, Some, Ok, refl, sym, ap, ◌∙◌, append_assoc, arith}
 use Rattle.std.specs.Prelude.{codes}
-use Rattle.std.specs.Int.{w32, w64, to_be_bytes}
+use Rattle.std.specs.Int.{w32, w64, to_be_bytes, FitsUnsigned}
 use Rattle.std.specs.List.{AllByRecursion}
-use Rattle.std.proofs.lemmas.Bool.{ltb-true}
+use Rattle.std.proofs.lemmas.Bool.{ltb-true, ltb-false, le-ltb}
+use Rattle.std.proofs.lemmas.Int.{ints}
 use Rattle.std.proofs.lemmas.List.{append-nil, length-append}
-use Rattle.mp_boxes.specs.Field.{Part, box_bytes, boxes_bytes}
+use Rattle.mp_boxes.specs.Field.{Part, boxes_bytes}
 use Rattle.mp_boxes.specs.Parts.{HasPlainKind, listed}
-use Rattle.mp_boxes.specs.Header.{IsHeader, Short, Long}
+use Rattle.mp_boxes.specs.Header.{IsHeader, Short, Long, head_bytes}
 use Rattle.mp_boxes.specs.Boxes.{Box, boxes, IsCut}
 use Rattle.mp_headers.specs.FileType.{ftyp}
 use Rattle.mp_timeline.specs.Movie.{SampleRecord, MovieRecord}
 use Rattle.mp_timeline.specs.Children.{only}
 use Rattle.mp_timeline.specs.Present.{movie_of, present}
-use Rattle.mp_timeline.specs.Single.{IsEntry, ArePlain}
+use Rattle.mp_timeline.specs.Single.{ArePlain}
 use Rattle.mp_layout.specs.Order.{joined}
 use Rattle.mp_layout.specs.Moov.{moov}
 use Rattle.mp_layout.specs.File.{mdat_head}
@@ -33,9 +34,11 @@ head_is : (n : ℕ) → 16 + n < 2 ^ 64 → IsHeader true (codes "mdat") n [] (m
 unfolding mdat_head
 head_is n fits = by (ltb (8 + n) (2 ^ 32)) refl
   where
-    by : (short : Bool) → ltb (8 + n) (2 ^ 32) ≡ short → IsHeader true (codes "mdat") n [] (cond short (to_be_bytes w32 (8 + n) ++ codes "mdat") (to_be_bytes w32 1 ++ codes "mdat" ++ to_be_bytes w64 (16 + n)))
-    by true e = record { spelling = Short; more = []; kind_len = refl; more_len = refl; allowed = ltb-true _ _ e; text = refl }
-    by false e = record { spelling = Long; more = []; kind_len = refl; more_len = refl; allowed = fits; text = refl }
+    by : (short : Bool) → ltb (8 + n) (2 ^ 32) ≡ short → IsHeader true (codes "mdat") n [] (head_bytes (codes "mdat") (cond short (8 + n) (16 + n)))
+    by true e = rw e (record { spelling = Short; more = []; kind_len = refl; more_len = refl; allowed = ltb-true _ _ e; text = refl })
+    by false e =
+        let long = ltb-false (8 + n) (2 ^ 32) e in
+        rw (le-ltb (16 + n) (2 ^ 32) (omega arith)) (record { spelling = Long; more = []; kind_len = refl; more_len = refl; allowed = fits; text = refl })
 
 -- the media data box
 mdat_box : ℕ → List ℕ → Box
@@ -78,9 +81,13 @@ pub head-len : (n : ℕ) → length (mdat_head n) ≤ 16
 unfolding mdat_head
 head-len n = by (ltb (8 + n) (2 ^ 32))
   where
-    by : (short : Bool) → length (cond short (to_be_bytes w32 (8 + n) ++ codes "mdat") (to_be_bytes w32 1 ++ codes "mdat" ++ to_be_bytes w64 (16 + n))) ≤ 16
-    by true = omega arith
-    by false = omega arith
+    spelled : (len : ℕ) (short : Bool) → length (cond short (to_be_bytes w32 len ++ codes "mdat") (to_be_bytes w32 1 ++ codes "mdat" ++ to_be_bytes w64 len)) ≤ 16
+    spelled len true = omega arith
+    spelled len false = omega arith
+
+    by : (short : Bool) → length (head_bytes (codes "mdat") (cond short (8 + n) (16 + n))) ≤ 16
+    by true = spelled (8 + n) (ltb (8 + n) (2 ^ 32))
+    by false = spelled (16 + n) (ltb (16 + n) (2 ^ 32))
 
 nil-len : length (boxes_bytes []) ≡ 0
 unfolding boxes_bytes
@@ -99,20 +106,13 @@ joined_fits (sample ∷ samples) decode plain =
     let size = plain.5 in
     omega (arith, length-append sample.bytes (joined samples), joined_fits samples (decode + sample.dur) plain.7, size)
 
-pub durations_fit : (samples : List SampleRecord) (decode : ℕ) → ArePlain decode samples → AllByRecursion (λ duration. duration < 2 ^ 32) (map (λ sample. sample.dur) samples)
+fits_32 : (n : ℕ) → n < 2 ^ 32 → FitsUnsigned w32 (pos n)
+fits_32 n fits = (grind (arith, ints), grind (arith, ints))
+
+pub durations_fit : (samples : List SampleRecord) (decode : ℕ) → ArePlain decode samples → AllByRecursion (λ (sample : SampleRecord). FitsUnsigned w32 (pos sample.dur)) samples
 durations_fit [] decode plain = tt
-durations_fit (sample ∷ samples) decode plain = (plain.4, durations_fit samples (decode + sample.dur) plain.7)
+durations_fit (sample ∷ samples) decode plain = (fits_32 sample.dur plain.4, durations_fit samples (decode + sample.dur) plain.7)
 
 pub sizes_fit : (samples : List SampleRecord) (decode : ℕ) → ArePlain decode samples → AllByRecursion (λ size. size < 2 ^ 32) (map (λ sample. length sample.bytes) samples)
 sizes_fit [] decode plain = tt
 sizes_fit (sample ∷ samples) decode plain = (plain.5, sizes_fit samples (decode + sample.dur) plain.7)
-
--- how long an entry is
-pub entry_len : (entry : List ℕ) → IsEntry entry → length entry < 2 ^ 25
-unfolding box_bytes
-entry_len entry h =
-    let four = h.kind_len in
-    let six = h.reserved_len in
-    let fits = h.rest_fits in
-    let body : List ℕ = h.reserved ++ (0 ∷ 1 ∷ h.rest) in
-    omega (arith, ap length h.whole, length-append (to_be_bytes w32 (8 + length body) ++ h.kind) body, length-append (to_be_bytes w32 (8 + length body)) h.kind, length-append h.reserved (0 ∷ 1 ∷ h.rest))

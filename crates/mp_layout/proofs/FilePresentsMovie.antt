@@ -1,8 +1,12 @@
 -- The law of the format: the file of a movie of one plain track presents the movie.
-use Rattle.std.proofs.Common.{◌≡◌, ℕ, ◌+◌, ◌^◌, ◌<◌, ◌≤◌, Bool, List, [], ◌∷◌, ◌++◌, length, Some, None, refl, sym, ap, subst, ◌∙◌, arith}
+use Rattle.std.proofs.Common.{◌≡◌, ℕ, ◌+◌, ◌^◌, ◌<◌, ◌≤◌, Bool, List, [], ◌∷◌, ◌++◌, length, Option, Some, None, refl, sym, ap, subst, ◌∙◌, arith}
 use Rattle.std.specs.List.{AllByRecursion}
-use Rattle.std.proofs.lemmas.List.{append-nil}
+use Rattle.std.proofs.lemmas.List.{append-nil, length-append}
+use Rattle.std.proofs.lemmas.List.Elements.{All-from_recursion}
+use Rattle.mp_boxes.specs.Boxes.{IsBytes}
 use Rattle.mp_boxes.specs.Field.{box_bytes, boxes_bytes}
+use Rattle.mp_entries.specs.Entry.{IsEntry}
+use Rattle.mp_headers.specs.declared.track_header.Tkhd.{Tkhd}
 use Rattle.mp_headers.specs.FileType.{ftyp}
 use Rattle.mp_headers.specs.MovieHeader.{IsMvhd}
 use Rattle.mp_headers.specs.TrackHeader.{IsTkhd}
@@ -12,20 +16,21 @@ use Rattle.mp_timeline.specs.Movie.{SampleRecord, TrackRecord, MovieRecord}
 use Rattle.mp_timeline.specs.SampleTable.{SampleTable, samples_of}
 use Rattle.mp_timeline.specs.Present.{Media, track_head, movie_head, present}
 use Rattle.mp_timeline.specs.Same.{HasScales}
-use Rattle.mp_timeline.specs.Single.{IsEntry, IsMovieHead, IsTrackHead, ArePlain, IsPlainTrack, IsSingle}
-use Rattle.mp_layout.specs.Stretch.{Stretch, stretches}
+use Rattle.mp_timeline.specs.Single.{IsMovieHead, IsTrackHead, ArePlain, IsPlainTrack, IsSingle}
+use Rattle.mp_times.specs.Stretch.{Stretch, stretches}
 use Rattle.mp_layout.specs.Durations.{movie_duration}
 use Rattle.mp_layout.specs.Order.{chunks_of, same_entry, Chunk, joined, payload}
 use Rattle.mp_layout.specs.Moov.{moov}
 use Rattle.mp_layout.specs.File.{mdat_head, front_at, payload_place, wide_tracks, file_bytes}
 use Rattle.mp_layout.proofs.OneTrack.{single_chunk}
 use Rattle.mp_layout.proofs.PlainSamples.{one_stretch}
-use Rattle.mp_layout.proofs.SamplesAreRead.{one_chunk, samples-read}
-use Rattle.mp_layout.proofs.TablesAreRead.{FitsTables, tables-read, table_parts}
+use Rattle.mp_layout.proofs.EntriesAreRead.{EntriesAreKept}
+use Rattle.mp_layout.proofs.SamplesAreRead.{one_table, joined-len, samples-read}
+use Rattle.mp_layout.proofs.TablesAreRead.{DurationsAreRead, FitsTables, tables-read, table_parts}
 use Rattle.mp_layout.proofs.TracksAreRead.{HeadersAreRead, information-read, media-read, track-read, movie-read}
 use Rattle.mp_layout.proofs.BoxesAreShort.{moov_body, trak_body, mdia_body, minf_body, FitHeads, all_short, same_len, table-len, table-short}
 use Rattle.mp_layout.proofs.FileInOneChunk.{chunk_of_all, payload-ok, OneFlag, one_flag, no_ctts, no_stss, heads_of, placing_of, stbl-ok, trak-ok, moov-ok}
-use Rattle.mp_layout.proofs.FileIsCut.{BoxesAreRead, front_of, front_parts, moov_part, file-read, front-len, head-len, parts-len, joined_fits, durations_fit, sizes_fit, entry_len}
+use Rattle.mp_layout.proofs.FileIsCut.{BoxesAreRead, front_of, front_parts, moov_part, file-read, front-len, head-len, parts-len, joined_fits, durations_fit, sizes_fit}
 
 -- ---- the fields of the headers are in their ranges
 
@@ -90,7 +95,9 @@ pub record Plain (movie : MovieRecord) (track : TrackRecord) (entry : List ℕ) 
   pub tracks : movie.tracks ≡ track ∷ []
   pub plain : IsPlainTrack track
   pub entries : track.entries ≡ entry ∷ []
+  pub entry_bytes : IsBytes entry
   pub is_entry : IsEntry entry
+  pub entry_fits : length entry < 2 ^ 24
   pub all : track.samples ≡ sample ∷ samples
 
 -- the tables where the samples stand at `place`
@@ -164,7 +171,7 @@ file-is movie track entry sample samples h one flags =
 track_read : MovieRecord → TrackRecord → List ℕ → ℕ → TrackRecord
 track_read movie track entry place =
     let heads = heads_of movie track in
-    let media : Media = record { head = heads.media; handler = heads.handler; name = heads.name; table = one_chunk entry place track.samples } in
+    let media : Media = record { head = heads.media; handler = heads.handler; name = heads.name; table = one_table entry place track.samples } in
     record { number = heads.track.number; head = track_head heads.track media []; scale = media.head.timescale; entries = media.table.entries; samples = track.samples; edits = None }
 
 same_track : (movie : MovieRecord) (track : TrackRecord) (entry : List ℕ) (place : ℕ) → track.entries ≡ entry ∷ [] → track.edits ≡ None → track.head.udta ≡ [] → track_read movie track entry place ≡ track
@@ -176,6 +183,11 @@ same_movie : (movie : MovieRecord) (track read : TrackRecord) → movie.tracks �
 unfolding heads_of
 same_movie movie track read one empty same =
     ap (λ (t : TrackRecord). record movie { head = record movie.head { udta = [] }; tracks = t ∷ [] }) same ∙ λ i. record movie { head = record movie.head { udta = sym empty i }; tracks = sym one i }
+
+-- what is read of a track with these samples
+abbrev with_samples : Tkhd → Media → List SampleRecord → Option TrackRecord
+with_samples head media samples =
+    Some (record { number = head.number; head = track_head head media []; scale = media.head.timescale; entries = media.table.entries; samples = samples; edits = None })
 
 -- the tables fit their fields, and the boxes theirs
 record Sizes (movie : MovieRecord) (track : TrackRecord) (entry : List ℕ) (sample : SampleRecord) (samples : List SampleRecord) (wide : Bool) (place : ℕ) : Type 0 where
@@ -190,7 +202,8 @@ unfolding table_at body_at front_with bytes_of
 sizes_of movie track entry sample samples h wide place =
     let chunk : Stretch SampleRecord = record { first = sample; others = samples } in
     let few = h.plain.few_samples in
-    let table : length (table_at track entry sample samples wide place) < 2 ^ 28 = omega (arith, table-short entry track.samples chunk wide place, entry_len entry h.is_entry) in
+    let entry_fits = h.entry_fits in
+    let table : length (table_at track entry sample samples wide place) < 2 ^ 28 = omega (arith, table-short entry track.samples chunk wide place) in
     let short = (all_short (heads_of movie track) (table_at track entry sample samples wide place) (fit_heads movie track h.head h.plain.head) table).moov in
     let body = body_at movie track entry sample samples wide place in
     record {
@@ -200,10 +213,10 @@ sizes_of movie track entry sample samples h wide place =
       payload = omega (arith, joined_fits track.samples 0 h.plain.samples);
     }
 
-whole : BoxesAreRead → HeadersAreRead → (movie : MovieRecord) (track : TrackRecord) (entry : List ℕ) (sample : SampleRecord) (samples : List SampleRecord) → Plain movie track entry sample samples → (wide : Bool) (place : ℕ)
+whole : BoxesAreRead → HeadersAreRead → EntriesAreKept → DurationsAreRead → (movie : MovieRecord) (track : TrackRecord) (entry : List ℕ) (sample : SampleRecord) (samples : List SampleRecord) → Plain movie track entry sample samples → (wide : Bool) (place : ℕ)
     → length (front_with movie track entry sample samples wide place) ≡ place → present (front_with movie track entry sample samples wide place ++ bytes_of track) ≡ Some movie
 unfolding table_at body_at front_with bytes_of track_read heads_of
-whole read headers movie track entry sample samples h wide place same =
+whole read headers kept durs movie track entry sample samples h wide place same =
     let heads = heads_of movie track in
     let chunk : Stretch SampleRecord = record { first = sample; others = samples } in
     let table : List ℕ = table_at track entry sample samples wide place in
@@ -211,18 +224,20 @@ whole read headers movie track entry sample samples h wide place same =
     let file : List ℕ = front ++ joined track.samples in
     let sizes = sizes_of movie track entry sample samples h wide place in
     let short = all_short heads table (fit_heads movie track h.head h.plain.head) sizes.table in
-    let fits : FitsTables track.samples chunk place = record {
+    let fits : FitsTables (length file) track.samples chunk place = record {
+      some = omega (arith, ap length h.all);
       few = let few = h.plain.few_samples in omega arith;
-      durations = durations_fit track.samples 0 h.plain.samples;
+      durations = All-from_recursion _ track.samples (durations_fit track.samples 0 h.plain.samples);
       sizes = sizes_fit track.samples 0 h.plain.samples;
       count = ap length (sym h.all);
       kind = (subst (ArePlain 0) h.all h.plain.samples).3;
       place_fits = let p = sizes.front in omega arith;
+      inside = omega (arith, length-append front (joined track.samples), joined-len track.samples);
     } in
-    let tables : SampleTable = one_chunk entry place track.samples in
+    let tables : SampleTable = one_table entry place track.samples in
     let media : Media = record { head = heads.media; handler = heads.handler; name = heads.name; table = tables } in
-    let all : samples_of file tables ≡ Some track.samples =
-    ap (λ (p : ℕ). samples_of file (one_chunk entry p track.samples)) (sym same) ∙ samples-read entry front track.samples h.plain.samples in
+    let all : samples_of file tables ≡ track.samples =
+    ap (λ (p : ℕ). samples_of file (one_table entry p track.samples)) (sym same) ∙ samples-read entry front track.samples h.plain.samples in
     let some_movie : 0 < movie.scale = let s = h.scale in omega arith in
     let some_track : 0 < track.scale = let s = h.plain.scale in omega arith in
     let table_short : length table < 2 ^ 32 = let s = sizes.table in omega arith in
@@ -234,18 +249,18 @@ whole read headers movie track entry sample samples h wide place same =
     (λ moov_box moov_is.
     movie-read read.alone headers file moov_box heads.movie (trak_body heads table) (track_read movie track entry place) (is_mvhd movie track some_movie h.scale_fits h.head h.tracks) moov_is moov_short
     (λ trak_box trak_is.
-    track-read read.alone headers file trak_box heads.track (mdia_body heads table) media track.samples (is_tkhd movie track h.plain.number_fits h.plain.head) h.plain.number trak_is trak_short
+    track-read read.alone headers file trak_box heads.track (mdia_body heads table) media (is_tkhd movie track h.plain.number_fits h.plain.head) h.plain.number trak_is trak_short
     (λ mdia_box mdia_is.
-    media-read read.alone headers mdia_box heads.media heads.handler heads.name (minf_body heads table) tables (is_mdhd movie track some_track h.plain.scale_fits h.plain.head) (is_handler movie track h.plain.head) mdia_is mdia_short
+    media-read read.alone headers (length file) mdia_box heads.media heads.handler heads.name (minf_body heads table) tables (is_mdhd movie track some_track h.plain.scale_fits h.plain.head) (is_handler movie track h.plain.head) mdia_is mdia_short
     (λ minf_box minf_is.
-    information-read read.alone minf_box heads.handler table tables minf_is minf_short
-    (λ stbl_box stbl_is. tables-read read.alone entry track.samples chunk wide place stbl_box h.is_entry fits stbl_is table_short)))
-    all)
+    information-read read.alone (length file) minf_box heads.handler table tables minf_is minf_short
+    (λ stbl_box stbl_is. tables-read read.alone kept durs (length file) entry track.samples chunk wide place stbl_box h.entry_bytes h.is_entry fits stbl_is table_short)))
+    ∙ ap (with_samples heads.track media) all)
     ∙ ap (λ (m : MovieRecord). Some m) (same_movie movie track (track_read movie track entry place) h.tracks h.head.udta (same_track movie track entry place h.entries h.plain.edits h.plain.head.udta)))
 
-pub file_presents_movie : BoxesAreRead → HeadersAreRead → (movie : MovieRecord) → IsSingle movie → present (file_bytes movie 0) ≡ Some movie
+pub file_presents_movie : BoxesAreRead → HeadersAreRead → EntriesAreKept → DurationsAreRead → (movie : MovieRecord) → IsSingle movie → present (file_bytes movie 0) ≡ Some movie
 unfolding place_of_payload
-file_presents_movie read headers movie h = go h.track.samples refl
+file_presents_movie read headers kept durs movie h = go h.track.samples refl
   where
     go : (all : List SampleRecord) → h.track.samples ≡ all → present (file_bytes movie 0) ≡ Some movie
     go [] e = absurd (h.plain.some_samples e)
@@ -259,7 +274,9 @@ file_presents_movie read headers movie h = go h.track.samples refl
           tracks = h.one_track;
           plain = h.plain;
           entries = h.plain.one_entry;
+          entry_bytes = h.plain.entry_bytes;
           is_entry = h.plain.entry_is;
+          entry_fits = h.plain.entry_fits;
           all = e;
         } in
         let stretch : stretches same_entry track.samples ≡ record { first = sample; others = samples } ∷ [] =
@@ -268,7 +285,7 @@ file_presents_movie read headers movie h = go h.track.samples refl
         let flags = one_flag movie track (chunk_of_all sample samples ∷ []) h.one_track in
         let place = place_of_payload movie track entry sample samples flags.wide in
         ap present (file-is movie track entry sample samples plain one flags)
-        ∙ whole read headers movie track entry sample samples plain flags.wide place (front_len-same movie track entry sample samples flags.wide place 0)
+        ∙ whole read headers kept durs movie track entry sample samples plain flags.wide place (front_len-same movie track entry sample samples flags.wide place 0)
 
 pub has_scales : (movie : MovieRecord) → IsSingle movie → HasScales movie
 has_scales movie h =

@@ -1,11 +1,10 @@
 mod OneFrame
 pub mod Buffers
 pub mod Rooms
-mod RunsUnfold
 mod RowsAreRead
-mod DurationsAreRead
 mod PlacesAreRead
 mod EntriesAreRead
+mod SamplesArePlaced
 mod SamplesAreRead
 mod TablesAreRead
 mod TracksAreRead
@@ -14,7 +13,10 @@ mod FileInOneChunk
 mod FileIsCut
 mod FilePresentsMovie
 pub mod PlainSamples
-pub mod Runs
+pub mod TimeTables
+pub mod EditsAreShort
 pub mod HeaderFields
 pub mod OneTrack
 pub mod Writing
+pub mod SoundMovie
+mod Examples

@@ -11,12 +11,12 @@ use Rattle.mp_headers.specs.DataReference.{dinf}
 use Rattle.mp_timeline.specs.declared.segment.Segment.{Segment}
 use Rattle.mp_timeline.specs.Movie.{SampleRecord, TrackRecord, MovieRecord}
 use Rattle.mp_timeline.specs.Single.{ArePlain, IsPlainTrack, IsSingle}
-use Rattle.mp_layout.specs.Stretch.{Stretch, items_of, in_front, stretches}
+use Rattle.mp_times.specs.Stretch.{Stretch, items_of, in_front, stretches}
+use Rattle.mp_times.specs.Written.{stts}
 use Rattle.mp_layout.specs.Durations.{greatest}
 use Rattle.mp_layout.specs.Order.{Chunk, window_of, window_chunks, chunks_of, same_entry, joined, chunk_bytes, payload, places_at}
-use Rattle.mp_layout.specs.Tables.{Placing, stsd, stts, stsc, stsz, stbl, offsets_body, chunk_offsets}
-use Rattle.mp_layout.specs.Moov.{movie_header, track_header, media_head, minf, mdia, with_user_data, trak, placing_at, traks, moov}
-use Rattle.mp_layout.specs.Edits.{edts}
+use Rattle.mp_layout.specs.Tables.{Placing, stsd, durations, stsc, stsz, stbl, offsets_body, chunk_offsets}
+use Rattle.mp_layout.specs.Moov.{movie_header, track_header, media_head, minf, mdia, with_user_data, edts, trak, placing_at, traks, moov}
 use Rattle.mp_layout.specs.File.{front_at, payload_place, is_closed, sets_of, wide_tracks, mdat_head, file_bytes}
 use Rattle.mp_layout.specs.Single.{one_chunk}
 use Rattle.mp_layout.proofs.PlainSamples.{one_stretch, plain_stbl}
@@ -87,7 +87,7 @@ plain_stretch (sample ∷ samples) some plain = (record { first = sample; others
 pub single_chunk : (movie : MovieRecord) (s : IsSingle movie) (only : Stretch SampleRecord) → stretches same_entry s.track.samples ≡ only ∷ [] → chunks_of 0 movie ≡ record { track = 0; samples = only } ∷ []
 single_chunk movie s only is = chunks_are movie ∙ rw (s.one_track, is) refl
 
-no_user_data : (kind : List ℕ) (parts : List Part) (udta : List ℕ) → udta ≡ [] → with_user_data kind parts udta ≡ container kind parts
+pub no_user_data : (kind : List ℕ) (parts : List Part) (udta : List ℕ) → udta ≡ [] → with_user_data kind parts udta ≡ container kind parts
 no_user_data kind parts udta none = ap (λ (u : List ℕ). with_user_data kind parts u) none ∙ ap (λ (b : List ℕ). let part : Part = record { kind = kind; body = b } in part) (append-nil (boxes_bytes parts))
 
 pub plain_trak : (movie_scale : ℕ) (track : TrackRecord) (placing : Placing) → IsPlainTrack track
@@ -146,7 +146,7 @@ pub moov_ends : (movie : MovieRecord) (s : IsSingle movie) → EndsWithPlace (λ
 moov_ends movie s =
     let track = s.track in
     let tables = ends_too (λ place. box_bytes (stbl track (one_chunk track place))) _ (λ place. ap box_bytes (plain_stbl track place s.plain.samples))
-    (ends_in (codes "stbl") (stsd track.entries ∷ (stts track.samples ∷ (stsc (stretches same_entry track.samples) ∷ (stsz track.samples ∷ [])))) (λ place. chunk_offsets false (place ∷ [])) stco_ends) in
+    (ends_in (codes "stbl") (stsd track.entries ∷ (stts (durations track.samples) ∷ (stsc (stretches same_entry track.samples) ∷ (stsz track.samples ∷ [])))) (λ place. chunk_offsets false (place ∷ [])) stco_ends) in
     let information = ends_in (codes "minf") (media_header track.head.handler ∷ (dinf ∷ [])) (λ place. stbl track (one_chunk track place)) tables in
     let media = ends_in (codes "mdia") (media_head track ∷ (hdlr track.head.handler track.head.name ∷ [])) (λ place. minf track (one_chunk track place)) information in
     let whole = ends_too (λ place. box_bytes (trak movie.scale track (one_chunk track place))) _ (λ place. ap box_bytes (plain_trak movie.scale track (one_chunk track place) s.plain))
@@ -209,8 +209,3 @@ single_payload movie s = payload_is movie ∙ (ap (flat_map (λ (track : TrackRe
 pub moov_len : (movie : MovieRecord) (chunks : List Chunk) (wide : List Bool) (place : ℕ) → 8 ≤ length (box_bytes (moov movie chunks wide place))
 unfolding box_bytes
 moov_len movie chunks wide place = simp length-append (omega arith)
-
--- a payload that 32 bits don't hold
-pub mdat_long : (len : ℕ) → 2 ^ 32 ≤ 8 + len → mdat_head len ≡ to_be_bytes w32 1 ++ codes "mdat" ++ to_be_bytes w64 (16 + len)
-unfolding mdat_head
-mdat_long len long = rw (le-ltb (8 + len) (2 ^ 32) long) refl

@@ -7,11 +7,13 @@ use Rattle.std.specs.Ordering.{int_eq}
 use Rattle.mp_boxes.specs.declared.field.Field.TheVariants.{U32}
 use Rattle.mp_boxes.specs.Field.{box_bytes, container, leaf, version_and_flags}
 use Rattle.mp_timeline.specs.Movie.{SampleRecord, TrackRecord}
-use Rattle.mp_timeline.specs.Single.{ArePlain, IsEntry}
-use Rattle.mp_layout.specs.Stretch.{stretches}
+use Rattle.mp_timeline.specs.Single.{ArePlain}
+use Rattle.mp_times.specs.Stretch.{stretches}
+use Rattle.mp_times.specs.Sync.{is_sync}
+use Rattle.mp_times.specs.Written.{stts}
 use Rattle.mp_layout.specs.Order.{same_entry}
-use Rattle.mp_layout.specs.Tables.{stsd, stts, stsc, stsc_body, stsz, chunk_offsets, stbl, offset_of, common_size}
-use Rattle.mp_layout.specs.Single.{one_chunk, sizes, entries_bytes}
+use Rattle.mp_layout.specs.Tables.{stsd, stsc, stsc_body, stsz, chunk_offsets, stbl, durations, composition_offsets, sync_marks, sizes, common_size}
+use Rattle.mp_layout.specs.Single.{one_chunk, entries_bytes}
 
 -- each is below 2^32 bytes
 pub plain_size : (decode : ℕ) (samples : List SampleRecord) → ArePlain decode samples → (k : ℕ) (x : SampleRecord) → k < length samples → length (get_or samples k x).bytes < 2 ^ 32
@@ -32,13 +34,13 @@ one_row [] some plain = absurd (some refl)
 one_row (sample ∷ samples) some plain = rw (one_stretch 0 sample samples plain, plain.3) refl
 
 -- they are composed as they are decoded
-pub no_offset : (decode : ℕ) (samples : List SampleRecord) → ArePlain decode samples → list_all (int_eq (pos 0)) (map offset_of samples) ≡ true
+pub no_offset : (decode : ℕ) (samples : List SampleRecord) → ArePlain decode samples → list_all (int_eq (pos 0)) (composition_offsets samples) ≡ true
 no_offset decode [] plain = refl
 no_offset decode (sample ∷ samples) plain =
     let zero : pos decode -ℤ pos decode ≡ pos 0 = grind (arith, ints) in
     rw (plain.1, plain.0, zero, no_offset (decode + sample.dur) samples plain.7) refl
 
-pub all_sync : (decode : ℕ) (samples : List SampleRecord) → ArePlain decode samples → list_all (λ sample. sample.sync) samples ≡ true
+pub all_sync : (decode : ℕ) (samples : List SampleRecord) → ArePlain decode samples → list_all is_sync (sync_marks samples) ≡ true
 all_sync decode [] plain = refl
 all_sync decode (sample ∷ samples) plain = rw (plain.2, all_sync (decode + sample.dur) samples plain.7) refl
 
@@ -60,12 +62,9 @@ size_of_all (sample ∷ samples) first size some is size_is =
 
 -- what a track of such samples has in its table box
 pub plain_stbl : (track : TrackRecord) (place : ℕ) → ArePlain 0 track.samples
-    → stbl track (one_chunk track place) ≡ container (codes "stbl") (stsd track.entries ∷ stts track.samples ∷ stsc (stretches same_entry track.samples) ∷ stsz track.samples ∷ chunk_offsets false (place ∷ []) ∷ [])
+    → stbl track (one_chunk track place) ≡ container (codes "stbl") (stsd track.entries ∷ stts (durations track.samples) ∷ stsc (stretches same_entry track.samples) ∷ stsz track.samples ∷ chunk_offsets false (place ∷ []) ∷ [])
 plain_stbl track place plain = rw (no_offset 0 track.samples plain, all_sync 0 track.samples plain) refl
 
 -- one entry is of fewer than 2^25 bytes
-pub short_entry : (entries : List (List ℕ)) (entry : List ℕ) → entries ≡ entry ∷ [] → IsEntry entry → length (entries_bytes entries) ≤ 2 ^ 25
-unfolding box_bytes
-short_entry entries entry one is =
-    let len : length entry ≡ 8 + (length is.reserved + (2 + length is.rest)) = rw is.whole (simp length-append (omega arith)) in
-    rw one (simp (length-append) (omega arith))
+pub short_entry : (entries : List (List ℕ)) (entry : List ℕ) → entries ≡ entry ∷ [] → length entry < 2 ^ 24 → length (entries_bytes entries) ≤ 2 ^ 25
+short_entry entries entry one short = rw one (simp length-append (omega arith))

@@ -1,12 +1,13 @@
 -- The boxes of a track, and the movie box around them, are read as the track and the movie.
-use Rattle.std.proofs.Common.{◌≡◌, ℕ, ◌+◌, ◌^◌, ◌<◌, ◌≤◌, Bool, true, false, cond, List, [], ◌∷◌, length, Some, None, Ok, refl, arith}
+use Rattle.std.proofs.Common.{◌≡◌, ℕ, ◌+◌, ◌^◌, ◌<◌, ◌≤◌, Bool, true, false, cond, List, [], ◌∷◌, length, Some, None, Ok, refl}
 use Rattle.std.specs.Prelude.{codes}
 use Rattle.std.specs.Str.{bytes_eq}
 use Rattle.std.specs.List.{AllByRecursion}
 use Rattle.std.proofs.lemmas.Bool.{le-leb}
 use Rattle.mp_boxes.specs.Field.{Part, box_bytes, boxes_bytes}
+use Rattle.mp_boxes.specs.Number.{u32_at, kind_at}
 use Rattle.mp_boxes.specs.Parts.{HasPlainKind, box_of, listed}
-use Rattle.mp_boxes.specs.Boxes.{Box, boxes}
+use Rattle.mp_boxes.specs.Boxes.{Box, boxes, walk}
 use Rattle.mp_boxes.specs.Child.{of_kind}
 use Rattle.mp_headers.specs.declared.movie_header.Mvhd.{Mvhd}
 use Rattle.mp_headers.specs.declared.track_header.Tkhd.{Tkhd}
@@ -17,7 +18,7 @@ use Rattle.mp_headers.specs.MediaHeader.{mdhd, mdhd_of, IsMdhd}
 use Rattle.mp_headers.specs.Handler.{hdlr, hdlr_of, name_of, IsHandler}
 use Rattle.mp_headers.specs.MediaInformation.{media_header, vmhd, smhd, sthd, nmhd}
 use Rattle.mp_headers.specs.DataReference.{dref, dinf}
-use Rattle.mp_timeline.specs.Movie.{SampleRecord, TrackRecord}
+use Rattle.mp_timeline.specs.Movie.{TrackRecord}
 use Rattle.mp_timeline.specs.Children.{children, only}
 use Rattle.mp_timeline.specs.Entries.{dref_of}
 use Rattle.mp_timeline.specs.SampleTable.{SampleTable, tables_of, samples_of}
@@ -35,11 +36,11 @@ pub record HeadersAreRead : Type 0 where
 
 -- ---- the media information box
 
-information_of-ok : (minf : Box) (boxes references : List Box) (dinf stbl dref : Box) (local : List Bool) (table : SampleTable)
+information_of-ok : (file_size : ℕ) (minf : Box) (boxes references : List Box) (dinf stbl dref : Box) (local : List Bool) (table : SampleTable)
     → children minf ≡ Some boxes → only (codes "dinf") boxes ≡ Some dinf → only (codes "stbl") boxes ≡ Some stbl → children dinf ≡ Some references → only (codes "dref") references ≡ Some dref
-    → dref_of dref.body ≡ Some local → tables_of local stbl ≡ Some table → information_of minf ≡ Some table
+    → dref_of dref.body ≡ Some local → tables_of file_size local stbl ≡ Some table → information_of file_size minf ≡ Some table
 unfolding information_of
-information_of-ok minf boxes references dinf stbl dref local table e1 e2 e3 e4 e5 e6 e7 = rw (e1, e2, e3, e4, e5, e6, e7) refl
+information_of-ok file_size minf boxes references dinf stbl dref local table e1 e2 e3 e4 e5 e6 e7 = rw (e1, e2, e3, e4, e5, e6, e7) refl
 
 -- a media information header is neither of the boxes that are picked
 pub record IsOther (part : Part) : Type 0 where
@@ -59,42 +60,36 @@ media_header-other handler = by (bytes_eq handler (codes "vide")) (bytes_eq hand
 abbrev pub stbl_part : List ℕ → Part
 stbl_part body = record { kind = codes "stbl"; body = body }
 
-dinf_short : length dinf.body < 2 ^ 32
-unfolding box_bytes boxes_bytes
-dinf_short = omega arith
-
-dinf-read : PartsAreRead → (box : Box) → box.body ≡ dinf.body → children box ≡ Some (box_of 0 dref ∷ [])
-dinf-read read box body = children-ok read box (dref ∷ []) body (record { four = refl; plain = refl }, tt) dinf_short
+dinf-read : (place : ℕ) → children (box_of place dinf) ≡ Some (box_of 0 dref ∷ [])
+unfolding children walk boxes_bytes box_bytes u32_at kind_at
+dinf-read place = refl
 
 -- the information box with any header of that kind
-other-read : PartsAreRead → (box : Box) (head : Part) (table : List ℕ) (result : SampleTable) → IsOther head → box.body ≡ boxes_bytes (head ∷ dinf ∷ stbl_part table ∷ [])
-    → length (boxes_bytes (head ∷ dinf ∷ stbl_part table ∷ [])) < 2 ^ 32 → ((stbl : Box) → stbl.body ≡ table → tables_of (true ∷ []) stbl ≡ Some result) → information_of box ≡ Some result
-other-read read box head table result other body short tables =
-    let found = listed 0 (head ∷ dinf ∷ stbl_part table ∷ []) in
+other-read : PartsAreRead → (file_size : ℕ) (box : Box) (head : Part) (table : List ℕ) (result : SampleTable) → IsOther head → box.body ≡ boxes_bytes (head ∷ dinf ∷ stbl_part table ∷ [])
+    → length (boxes_bytes (head ∷ dinf ∷ stbl_part table ∷ [])) < 2 ^ 32 → ((stbl : Box) → stbl.body ≡ table → tables_of file_size (true ∷ []) stbl ≡ Some result) → information_of file_size box ≡ Some result
+other-read read file_size box head table result other body short tables =
     let kinds : AllByRecursion HasPlainKind (head ∷ dinf ∷ stbl_part table ∷ []) = (other.kind, (record { four = refl; plain = refl }, (record { four = refl; plain = refl }, tt))) in
-    let dinf_box : Box = box_of (8 + length head.body) dinf in
-    let stbl_box : Box = box_of (8 + length head.body + (8 + length dinf.body)) (stbl_part table) in
     let one : only (codes "dinf") (listed 0 (head ∷ dinf ∷ stbl_part table ∷ [])) ≡ Some (box_of (0 + (8 + length head.body)) dinf) = rw other.not_dinf refl in
     let two : only (codes "stbl") (listed 0 (head ∷ dinf ∷ stbl_part table ∷ [])) ≡ Some (box_of (0 + (8 + length head.body) + (8 + length dinf.body)) (stbl_part table)) = rw other.not_stbl refl in
-    information_of-ok box (listed 0 (head ∷ dinf ∷ stbl_part table ∷ [])) (box_of 0 dref ∷ []) _ _ (box_of 0 dref) (true ∷ []) result
-    (children-ok read box (head ∷ dinf ∷ stbl_part table ∷ []) body kinds short) one two (dinf-read read (box_of (0 + (8 + length head.body)) dinf) refl) refl (dref-read read)
+    information_of-ok file_size box (listed 0 (head ∷ dinf ∷ stbl_part table ∷ [])) (box_of 0 dref ∷ []) _ _ (box_of 0 dref) (true ∷ []) result
+    (children-ok read box (head ∷ dinf ∷ stbl_part table ∷ []) body kinds short) one two (dinf-read (0 + (8 + length head.body))) refl dref-read
     (tables (box_of (0 + (8 + length head.body) + (8 + length dinf.body)) (stbl_part table)) refl)
 
 abbrev pub minf_parts : List ℕ → List ℕ → List Part
 minf_parts handler table = media_header handler ∷ dinf ∷ stbl_part table ∷ []
 
-pub information-read : PartsAreRead → (box : Box) (handler table : List ℕ) (result : SampleTable) → box.body ≡ boxes_bytes (minf_parts handler table) → length (boxes_bytes (minf_parts handler table)) < 2 ^ 32
-    → ((stbl : Box) → stbl.body ≡ table → tables_of (true ∷ []) stbl ≡ Some result) → information_of box ≡ Some result
-information-read read box handler table result body short tables = other-read read box (media_header handler) table result (media_header-other handler) body short tables
+pub information-read : PartsAreRead → (file_size : ℕ) (box : Box) (handler table : List ℕ) (result : SampleTable) → box.body ≡ boxes_bytes (minf_parts handler table) → length (boxes_bytes (minf_parts handler table)) < 2 ^ 32
+    → ((stbl : Box) → stbl.body ≡ table → tables_of file_size (true ∷ []) stbl ≡ Some result) → information_of file_size box ≡ Some result
+information-read read file_size box handler table result body short tables = other-read read file_size box (media_header handler) table result (media_header-other handler) body short tables
 
 -- ---- the media box
 
-media_of-ok : (mdia : Box) (boxes : List Box) (mdhd hdlr minf : Box) (head : Mdhd) (handler name : List ℕ) (table : SampleTable)
+media_of-ok : (file_size : ℕ) (mdia : Box) (boxes : List Box) (mdhd hdlr minf : Box) (head : Mdhd) (handler name : List ℕ) (table : SampleTable)
     → children mdia ≡ Some boxes → only (codes "mdhd") boxes ≡ Some mdhd → only (codes "hdlr") boxes ≡ Some hdlr → only (codes "minf") boxes ≡ Some minf
-    → mdhd_of 0 mdhd.body ≡ Ok head → hdlr_of 0 hdlr.body ≡ Ok handler → name_of hdlr.body ≡ name → information_of minf ≡ Some table
-    → media_of mdia ≡ Some (record { head = head; handler = handler; name = name; table = table })
+    → mdhd_of 0 mdhd.body ≡ Ok head → hdlr_of 0 hdlr.body ≡ Ok handler → name_of hdlr.body ≡ name → information_of file_size minf ≡ Some table
+    → media_of file_size mdia ≡ Some (record { head = head; handler = handler; name = name; table = table })
 unfolding media_of
-media_of-ok mdia boxes mdhd hdlr minf head handler name table e1 e2 e3 e4 e5 e6 e7 e8 = rw (e1, e2, e3, e4, e5, e6, e8, e7) refl
+media_of-ok file_size mdia boxes mdhd hdlr minf head handler name table e1 e2 e3 e4 e5 e6 e7 e8 = rw (e1, e2, e3, e4, e5, e6, e8, e7) refl
 
 abbrev pub minf_part : List ℕ → Part
 minf_part body = record { kind = codes "minf"; body = body }
@@ -102,22 +97,22 @@ minf_part body = record { kind = codes "minf"; body = body }
 abbrev pub mdia_parts : Mdhd → List ℕ → List ℕ → List ℕ → List Part
 mdia_parts head handler name information = mdhd head ∷ hdlr handler name ∷ minf_part information ∷ []
 
-pub media-read : PartsAreRead → HeadersAreRead → (box : Box) (head : Mdhd) (handler name information : List ℕ) (table : SampleTable) → IsMdhd head → IsHandler handler
+pub media-read : PartsAreRead → HeadersAreRead → (file_size : ℕ) (box : Box) (head : Mdhd) (handler name information : List ℕ) (table : SampleTable) → IsMdhd head → IsHandler handler
     → box.body ≡ boxes_bytes (mdia_parts head handler name information) → length (boxes_bytes (mdia_parts head handler name information)) < 2 ^ 32
-    → ((minf : Box) → minf.body ≡ information → information_of minf ≡ Some table) → media_of box ≡ Some (record { head = head; handler = handler; name = name; table = table })
-media-read read headers box head handler name information table is_head is_handler body short inner =
+    → ((minf : Box) → minf.body ≡ information → information_of file_size minf ≡ Some table) → media_of file_size box ≡ Some (record { head = head; handler = handler; name = name; table = table })
+media-read read headers file_size box head handler name information table is_head is_handler body short inner =
     let kinds : AllByRecursion HasPlainKind (mdia_parts head handler name information) = (record { four = refl; plain = refl }, (record { four = refl; plain = refl }, (record { four = refl; plain = refl }, tt))) in
-    media_of-ok box (listed 0 (mdia_parts head handler name information)) _ _ _ head handler name table
+    media_of-ok file_size box (listed 0 (mdia_parts head handler name information)) _ _ _ head handler name table
     (children-ok read box (mdia_parts head handler name information) body kinds short) refl refl refl (headers.media head 0 is_head) (headers.handler handler name 0 is_handler) (headers.name handler name is_handler) (inner _ refl)
 
 -- ---- the track box
 
-track_of-ok : (file : List ℕ) (trak : Box) (boxes : List Box) (tkhd mdia : Box) (head : Tkhd) (media : Media) (samples : List SampleRecord)
+track_of-ok : (file : List ℕ) (trak : Box) (boxes : List Box) (tkhd mdia : Box) (head : Tkhd) (media : Media)
     → children trak ≡ Some boxes → only (codes "tkhd") boxes ≡ Some tkhd → only (codes "mdia") boxes ≡ Some mdia → of_kind (codes "edts") boxes ≡ [] → of_kind (codes "udta") boxes ≡ []
-    → tkhd_of 0 tkhd.body ≡ Ok head → 1 ≤ head.number → media_of mdia ≡ Some media → samples_of file media.table ≡ Some samples
-    → track_of file trak ≡ Some (record { number = head.number; head = track_head head media []; scale = media.head.timescale; entries = media.table.entries; samples = samples; edits = None })
+    → tkhd_of 0 tkhd.body ≡ Ok head → 1 ≤ head.number → media_of (length file) mdia ≡ Some media
+    → track_of file trak ≡ Some (record { number = head.number; head = track_head head media []; scale = media.head.timescale; entries = media.table.entries; samples = samples_of file media.table; edits = None })
 unfolding track_of
-track_of-ok file trak boxes tkhd mdia head media samples e1 e2 e3 e4 e5 e6 e7 e8 e9 = rw (e1, e2, e3, e4, e6, le-leb _ _ e7, e8, e9, e5) refl
+track_of-ok file trak boxes tkhd mdia head media e1 e2 e3 e4 e5 e6 e7 e8 = rw (e1, e2, e3, e4, e6, le-leb _ _ e7, e8, e5) refl
 
 abbrev pub mdia_part : List ℕ → Part
 mdia_part body = record { kind = codes "mdia"; body = body }
@@ -125,14 +120,14 @@ mdia_part body = record { kind = codes "mdia"; body = body }
 abbrev pub trak_parts : Tkhd → List ℕ → List Part
 trak_parts head media = tkhd head ∷ mdia_part media ∷ []
 
-pub track-read : PartsAreRead → HeadersAreRead → (file : List ℕ) (box : Box) (head : Tkhd) (body : List ℕ) (media : Media) (samples : List SampleRecord) → IsTkhd head → 1 ≤ head.number
+pub track-read : PartsAreRead → HeadersAreRead → (file : List ℕ) (box : Box) (head : Tkhd) (body : List ℕ) (media : Media) → IsTkhd head → 1 ≤ head.number
     → box.body ≡ boxes_bytes (trak_parts head body) → length (boxes_bytes (trak_parts head body)) < 2 ^ 32
-    → ((mdia : Box) → mdia.body ≡ body → media_of mdia ≡ Some media) → samples_of file media.table ≡ Some samples
-    → track_of file box ≡ Some (record { number = head.number; head = track_head head media []; scale = media.head.timescale; entries = media.table.entries; samples = samples; edits = None })
-track-read read headers file box head body media samples is_head some text short inner all =
+    → ((mdia : Box) → mdia.body ≡ body → media_of (length file) mdia ≡ Some media)
+    → track_of file box ≡ Some (record { number = head.number; head = track_head head media []; scale = media.head.timescale; entries = media.table.entries; samples = samples_of file media.table; edits = None })
+track-read read headers file box head body media is_head some text short inner =
     let kinds : AllByRecursion HasPlainKind (trak_parts head body) = (record { four = refl; plain = refl }, (record { four = refl; plain = refl }, tt)) in
-    track_of-ok file box (listed 0 (trak_parts head body)) _ _ head media samples
-    (children-ok read box (trak_parts head body) text kinds short) refl refl refl refl (headers.track head 0 is_head) some (inner _ refl) all
+    track_of-ok file box (listed 0 (trak_parts head body)) _ _ head media
+    (children-ok read box (trak_parts head body) text kinds short) refl refl refl refl (headers.track head 0 is_head) some (inner _ refl)
 
 -- ---- the movie box
 

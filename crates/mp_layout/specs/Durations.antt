@@ -3,8 +3,8 @@ use Rattle.std.specs.Prelude.{ℕ, ℤ, pos, negsuc, ◌+ℤ◌, ◌+◌, ◌-�
 use Rattle.std.specs.List.{sum_by}
 use Rattle.std.specs.Int.{div_ceil}
 use Rattle.mp_timeline.specs.declared.segment.Segment.{Segment}
-use Rattle.mp_timeline.specs.declared.segment.Segment.TheVariants.{Empty, Media}
 use Rattle.mp_timeline.specs.Movie.{SampleRecord, TrackRecord, MovieRecord}
+use Rattle.mp_edits.specs.Segments.{total}
 
 -- the greatest number, 0 where there is none
 abbrev pub greatest : List ℕ → ℕ
@@ -20,19 +20,14 @@ abbrev pub not_before_start : ℤ → ℕ
 not_before_start (pos ticks) = ticks
 not_before_start (negsuc ticks) = 0
 
--- the end of the last sample to be composed
+-- the latest end of a sample, its composition time and its duration; 0 where none is behind the start
 abbrev pub extent : List SampleRecord → ℕ
 extent samples = greatest (map (λ sample. not_before_start (sample.comp +ℤ pos sample.dur)) samples)
-
--- how long a segment of an edit list is, in ticks of the movie
-abbrev pub segment_duration : Segment → ℕ
-segment_duration (Empty dur) = dur
-segment_duration (Media start dur) = dur
 
 -- how long a track is shown, in ticks of the movie, rounded up
 abbrev pub shown_duration : ℕ → ℕ → List SampleRecord → Option (List Segment) → ℕ
 shown_duration movie_scale scale samples None = div_ceil (extent samples * movie_scale) scale
-shown_duration movie_scale scale samples (Some edits) = sum_by segment_duration edits
+shown_duration movie_scale scale samples (Some edits) = total edits
 
 -- the duration of a track header
 abbrev pub track_duration : ℕ → TrackRecord → ℕ

@@ -1,18 +1,16 @@
 -- The file of a movie: `ftyp`, `moov` and `mdat` (ISO/IEC 14496-12, 4.3, 8.2.1 and 8.1.1).
 use Rattle.std.specs.Prelude.{ℕ, zero, suc, ◌+◌, ◌-◌, ◌^◌, Bool, true, false, ◌||◌, nat_lt, nat_le, List, [], ◌∷◌, ◌++◌, map, filter, length, get_or, codes, if◌then◌else◌}
 use Rattle.std.specs.List.{list_all, range_with_len}
-use Rattle.std.specs.Int.{w32, w64, to_be_bytes}
 use Rattle.mp_boxes.specs.Field.{box_bytes}
+use Rattle.mp_boxes.specs.Header.{head_bytes}
 use Rattle.mp_headers.specs.FileType.{ftyp}
 use Rattle.mp_timeline.specs.Movie.{MovieRecord}
 use Rattle.mp_layout.specs.Order.{Chunk, chunks_of, payload, places_at}
 use Rattle.mp_layout.specs.Moov.{moov}
 
--- the header of `mdat`, whose size is written in 64 bits where 32 don't hold it
+-- the header of `mdat` in front of so many bytes, with a size of 64 bits where 32 don't hold it
 unfoldable pub mdat_head : ℕ → List ℕ
-mdat_head len =
-    if nat_lt (8 + len) (2 ^ 32) then to_be_bytes w32 (8 + len) ++ codes "mdat"
-    else to_be_bytes w32 1 ++ codes "mdat" ++ to_be_bytes w64 (16 + len)
+mdat_head len = head_bytes (codes "mdat") (if nat_lt (8 + len) (2 ^ 32) then 8 + len else 16 + len)
 
 -- what stands in front of the payload, where the payload stands at `place` and these tracks have places of 64 bits
 abbrev pub front_at : MovieRecord → List Chunk → List Bool → ℕ → List ℕ

@@ -1,10 +1,9 @@
-pub mod Stretch
 pub mod Durations
 pub mod Order
-pub mod Edits
 pub mod Tables
 pub mod Moov
 pub mod File
 pub mod Plan
 pub mod Single
 pub mod Buffer
+pub mod Window

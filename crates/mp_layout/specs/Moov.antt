@@ -1,5 +1,5 @@
 -- The movie box, box by box in the order written (ISO/IEC 14496-12, 8.2 to 8.7).
-use Rattle.std.specs.Prelude.{ℕ, ◌+◌, Bool, false, List, [], ◌∷◌, ◌++◌, codes, get_or}
+use Rattle.std.specs.Prelude.{ℕ, ◌+◌, Bool, false, List, [], ◌∷◌, ◌++◌, codes, get_or, Option, Some, None}
 use Rattle.mp_boxes.specs.Field.{Part, boxes_bytes, container, optional}
 use Rattle.mp_headers.specs.MovieHeader.{mvhd}
 use Rattle.mp_headers.specs.TrackHeader.{tkhd}
@@ -7,10 +7,11 @@ use Rattle.mp_headers.specs.MediaHeader.{mdhd}
 use Rattle.mp_headers.specs.Handler.{hdlr}
 use Rattle.mp_headers.specs.MediaInformation.{media_header}
 use Rattle.mp_headers.specs.DataReference.{dinf}
+use Rattle.mp_timeline.specs.declared.segment.Segment.{Segment}
 use Rattle.mp_timeline.specs.Movie.{TrackRecord, MovieRecord}
+use Rattle.mp_edits.specs.Written.{elst}
 use Rattle.mp_layout.specs.Durations.{movie_duration, track_duration, media_duration, next_track}
 use Rattle.mp_layout.specs.Order.{Chunk, chunks_at, places_at}
-use Rattle.mp_layout.specs.Edits.{edts}
 use Rattle.mp_layout.specs.Tables.{Placing, stbl}
 
 -- the movie header (8.2.2)
@@ -59,6 +60,11 @@ minf track placing = container (codes "minf") (media_header track.head.handler �
 -- the media box (8.4.1)
 abbrev pub mdia : TrackRecord → Placing → Part
 mdia track placing = container (codes "mdia") (media_head track ∷ hdlr track.head.handler track.head.name ∷ minf track placing ∷ [])
+
+-- the edit box (8.6.5), which stands only where there are edits
+abbrev pub edts : Option (List Segment) → Option Part
+edts None = None
+edts (Some edits) = Some (container (codes "edts") (elst edits ∷ []))
 
 -- a box of boxes, and of user data (8.10.1), a whole box or nothing, behind them
 abbrev pub with_user_data : List ℕ → List Part → List ℕ → Part

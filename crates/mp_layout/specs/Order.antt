@@ -2,7 +2,7 @@
 use Rattle.std.specs.Prelude.{ℕ, ◌+◌, ◌*◌, ◌/◌, ◌==◌, List, [], ◌∷◌, ◌++◌, map, length, filter, Bool, if◌then◌else◌}
 use Rattle.std.specs.List.{flat_map, range_with_len}
 use Rattle.mp_timeline.specs.Movie.{SampleRecord, TrackRecord, MovieRecord}
-use Rattle.mp_layout.specs.Stretch.{Stretch, items_of, stretches}
+use Rattle.mp_times.specs.Stretch.{Stretch, items_of, stretches}
 use Rattle.mp_layout.specs.Durations.{greatest}
 
 -- the window of a sample: how many whole windows of so many milliseconds lie before its decode time. With 0 there is one window

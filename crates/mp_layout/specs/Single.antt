@@ -1,30 +1,15 @@
 -- The tables of a track whose samples are one chunk.
-use Rattle.std.specs.Prelude.{ℕ, ◌==◌, false, List, [], ◌∷◌, map, nat_eq, length, if◌then◌else◌}
-use Rattle.std.specs.List.{flat_map}
+use Rattle.std.specs.Prelude.{ℕ, ◌==◌, false, List, [], ◌∷◌, map, length, if◌then◌else◌}
 use Rattle.mp_boxes.specs.declared.field.Field.TheVariants.{U32}
 use Rattle.mp_boxes.specs.Field.{body_bytes, raw}
 use Rattle.mp_timeline.specs.Movie.{SampleRecord, TrackRecord}
-use Rattle.mp_layout.specs.Stretch.{Stretch, stretches}
+use Rattle.mp_times.specs.Stretch.{stretches}
 use Rattle.mp_layout.specs.Order.{same_entry, joined}
-use Rattle.mp_layout.specs.Tables.{Placing, stts_row}
+use Rattle.mp_layout.specs.Tables.{Placing}
 
 -- its samples stand in a row, at one place that fits 32 bits
 abbrev pub one_chunk : TrackRecord → ℕ → Placing
 one_chunk track place = record { chunks = stretches same_entry track.samples; places = place ∷ []; wide = false }
-
--- the durations of samples, and their sizes
-abbrev pub durations : List SampleRecord → List ℕ
-durations samples = map (λ sample. sample.dur) samples
-
-abbrev pub sizes : List SampleRecord → List ℕ
-sizes samples = map (λ sample. length sample.bytes) samples
-
--- the longest runs of equal durations, and the bytes of their rows
-abbrev pub runs_of : List ℕ → List (Stretch ℕ)
-runs_of durations = stretches nat_eq durations
-
-abbrev pub rows_bytes : List (Stretch ℕ) → List ℕ
-rows_bytes runs = body_bytes (flat_map stts_row runs)
 
 -- the bytes of entries
 abbrev pub entries_bytes : List (List ℕ) → List ℕ

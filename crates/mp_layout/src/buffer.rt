@@ -1,10 +1,11 @@
 // A buffer to which boxes are appended. The size of a box is written once its body stands.
 ghost use Rattle.std.specs.Prelude.{◌≡◌, ℕ, ◌+◌, ◌<◌, ◌≤◌, ◌^◌, List, [], ◌++◌, length, IfOk, OnOk};
-ghost use Rattle.std.specs.Int.{w32, w64, to_be_bytes};
-ghost use Rattle.mp_boxes.specs.Field.{box_bytes};
+ghost use Rattle.std.specs.Int.{w32, to_be_bytes};
+ghost use Rattle.mp_boxes.specs.Field.{body_bytes, box_bytes};
 ghost use Rattle.mp_boxes.specs.Front.{IsFilled};
 ghost use Rattle.mp_layout.specs.Buffer.{IsAppended, IsOpen};
 
+use mp_boxes::{Field, append_fields, u32_bytes};
 use mp_ports::NoMemory;
 
 const SIZE_LEN: usize = 4;
@@ -17,18 +18,13 @@ pub fn push_bytes(out: &mut Vec<u8>, bytes: &[u8]) -> Result<(), NoMemory>
     Ok(())
 }
 
-/// Appends the number, most significant byte first.
-pub fn push_u32(out: &mut Vec<u8>, number: u32) -> Result<(), NoMemory>
-    ensures { OnOk result (IsAppended out.old.items out.new.items 4 (to_be_bytes w32 number)) }
+/// Appends the fields.
+pub fn push_fields(out: &mut Vec<u8>, fields: &[Field<'_>]) -> Result<(), NoMemory>
+    requires { length (body_bytes fields.now) < 2 ^ 63 }
+    ensures { OnOk result (IsAppended out.old.items out.new.items (length (body_bytes fields.now)) (body_bytes fields.now)) }
 {
-    push_bytes(out, &number.to_be_bytes())
-}
-
-/// Appends the number, most significant byte first.
-pub fn push_u64(out: &mut Vec<u8>, number: u64) -> Result<(), NoMemory>
-    ensures { OnOk result (IsAppended out.old.items out.new.items 8 (to_be_bytes w64 number)) }
-{
-    push_bytes(out, &number.to_be_bytes())
+    append_fields(out, fields)?;
+    Ok(())
 }
 
 /// Writes the number over the four bytes at `at`.
@@ -38,7 +34,7 @@ pub fn set_u32(out: &mut Vec<u8>, at: usize, number: u32)
         → out.new.items ≡ front ++ (to_be_bytes w32 number ++ back) }
     ensures len { length out.new.items ≡ length out.old.items }
 {
-    out[at..at + SIZE_LEN].copy_from_slice(&number.to_be_bytes());
+    out[at..at + SIZE_LEN].copy_from_slice(&u32_bytes(number));
 }
 
 /// Begins a box of that type, and answers where it begins.
@@ -47,8 +43,7 @@ pub fn open_box(out: &mut Vec<u8>, kind: [u8; 4]) -> Result<usize, NoMemory>
     ensures len { OnOk result (length out.new.items ≡ length out.old.items + 8) }
 {
     let at = out.len();
-    push_u32(out, 0)?;
-    push_bytes(out, &kind)?;
+    push_fields(out, &[Field::U32(0), Field::Bytes(&kind)])?;
     Ok(at)
 }
 

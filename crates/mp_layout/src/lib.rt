@@ -13,7 +13,12 @@ mod moov;
 mod output;
 mod plan;
 mod tables;
+mod times;
+mod window;
 
 pub use law::file_presents_movie;
 pub use output::emit;
 pub use plan::{FilePlan, plan_file};
+
+#[cfg(test)]
+mod tests;

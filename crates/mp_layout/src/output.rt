@@ -8,10 +8,11 @@ ghost use Rattle.mp_layout.specs.Plan.{IsPlan};
 ghost use Rattle.mp_layout.specs.Single.{track_bytes};
 
 use crate::plan::FilePlan;
+use crate::window::{blank, flush, gather};
 use mp_ports::{Folder, PortFault};
 use mp_timeline::{PlainMovie, PlainSample, PlainTrack};
 
-/// Writes the planned file of the movie: its front in one piece, then each sample's bytes as they stand.
+/// Writes the planned file of the movie: its front in one piece, then the samples' bytes, gathered in a window.
 ///
 /// It takes no memory. Where an append fails, the folder has a front part of the file.
 pub fn emit<F: Folder>(file: &FilePlan, movie: &PlainMovie, folder: &mut F) -> Result<(), PortFault>
@@ -31,20 +32,27 @@ fn append_tracks<F: Folder>(tracks: &[PlainTrack], folder: &mut F) -> Result<(),
     ensures written { OnOk result (Appends (F.state folder.old) (F.state folder.new) (flat_map track_bytes tracks.now)) }
     ensures failed { OnErr result (FailsToAppend (F.state folder.old) (F.state folder.new) (flat_map track_bytes tracks.now)) }
 {
+    let mut window = blank();
     for track in tracks {
-        append_samples(&track.samples, folder)?;
+        append_samples(&track.samples, &mut window, folder)?;
     }
     Ok(())
 }
 
-/// Appends the bytes of the samples, in order.
-fn append_samples<F: Folder>(samples: &[PlainSample], folder: &mut F) -> Result<(), PortFault>
+/// Appends the bytes of the samples, in order, gathered in the window.
+fn append_samples<F: Folder>(
+    samples: &[PlainSample],
+    window: &mut [u8],
+    folder: &mut F,
+) -> Result<(), PortFault>
     requires { IsWriting (F.state folder.old) }
     ensures written { OnOk result (Appends (F.state folder.old) (F.state folder.new) (joined samples.now)) }
     ensures failed { OnErr result (FailsToAppend (F.state folder.old) (F.state folder.new) (joined samples.now)) }
 {
+    let mut held = 0;
     for sample in samples {
-        folder.append(&sample.bytes)?;
+        held = gather(window, held, &sample.bytes, folder)?;
     }
-    Ok(())
+    let left = &window[..held];
+    flush(left, folder)
 }

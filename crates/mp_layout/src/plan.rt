@@ -1,15 +1,16 @@
 // What stands in front of the payload of a file.
-ghost use Rattle.std.specs.Prelude.{◌≡◌, ◌<◌, ◌≤◌, ◌^◌, length, IfOk, OnOk};
+ghost use Rattle.std.specs.Prelude.{◌≡◌, ◌+◌, ◌<◌, ◌≤◌, ◌^◌, nat_lt, length, if◌then◌else◌, IfOk, OnOk};
 ghost use Rattle.mp_timeline.specs.Single.{ArePlain, IsSingle};
 ghost use Rattle.mp_layout.specs.Buffer.{IsAppended};
 ghost use Rattle.mp_layout.specs.Order.{joined};
 ghost use Rattle.mp_layout.specs.File.{mdat_head};
 ghost use Rattle.mp_layout.specs.Plan.{IsPlan};
 
-use crate::buffer::{push_bytes, push_u32, push_u64, set_u32};
+use crate::buffer::{push_front, set_u32};
 use crate::heads::push_ftyp;
 use crate::law::file_presents_movie;
 use crate::moov::push_moov;
+use mp_boxes::put_head;
 use mp_ports::NoMemory;
 use mp_timeline::{PlainMovie, PlainSample};
 use std::alloc::Global;
@@ -42,7 +43,7 @@ pub fn plan_file(alloc: Global, movie: &PlainMovie) -> Result<FilePlan, NoMemory
     file_presents_movie();
     let mut front = Vec::new(alloc);
     push_ftyp(&mut front)?;
-    push_moov(&mut front, movie, 0)?;
+    push_moov(alloc, &mut front, movie, 0)?;
     let place_at = front.len() - PLACE_LEN;
     let track = &movie.tracks[0];
     let payload = payload_len(&track.samples);
@@ -69,20 +70,26 @@ fn payload_len(samples: &[PlainSample]) -> u64
     len
 }
 
-/// Appends the header of `mdat`, in 16 bytes where its size needs 64 bits.
+/// The length of `mdat`: its header has 16 bytes where its size needs 64 bits, else 8.
+fn mdat_len(payload: u64) -> u64
+    requires { payload < 2 ^ 55 }
+    ensures { result ≡ (if nat_lt (8 + payload) (2 ^ 32) then 8 + payload else 16 + payload) }
+{
+    let short = 8 + payload;
+    if short <= u64::from(u32::MAX) {
+        short
+    } else {
+        16 + payload
+    }
+}
+
+/// Appends the header of `mdat`.
 #[tactic(auto, unfolding(crate::specs::File::mdat_head))]
 fn push_mdat_head(out: &mut Vec<u8>, payload: u64) -> Result<(), NoMemory>
     requires { payload < 2 ^ 55 }
     ensures { OnOk result (IsAppended out.old.items out.new.items 16 (mdat_head payload)) }
 {
-    let size = 8 + payload;
-    if size <= u64::from(u32::MAX) {
-        push_u32(out, size as u32)?;
-        push_bytes(out, b"mdat")?;
-    } else {
-        push_u32(out, 1)?;
-        push_bytes(out, b"mdat")?;
-        push_u64(out, 16 + payload)?;
-    }
-    Ok(())
+    let mut room = [0; 16];
+    let len = put_head(&mut room, *b"mdat", mdat_len(payload));
+    push_front(out, &room, len)
 }

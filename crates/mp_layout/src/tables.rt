@@ -1,19 +1,21 @@
 // The sample tables of a track whose samples are one chunk.
-ghost use Rattle.std.specs.Prelude.{◌≡◌, ◌≢◌, ◌+◌, ◌==◌, ◌<◌, ◌≤◌, ◌^◌, [], ◌∷◌, false, length, IfOk, OnOk};
-ghost use Rattle.std.specs.List.{list_all, prefix_len};
+ghost use Rattle.std.specs.Prelude.{◌≡◌, ◌≢◌, ◌+◌, ◌==◌, ◌<◌, ◌≤◌, ◌^◌, [], ◌∷◌, false, length, OnOk};
+ghost use Rattle.std.specs.List.{list_all};
 ghost use Rattle.mp_boxes.specs.Field.{box_bytes};
 ghost use Rattle.mp_timeline.specs.Single.{IsPlainTrack, ArePlain};
+ghost use Rattle.mp_times.specs.Stretch.{stretches};
 ghost use Rattle.mp_layout.specs.Buffer.{IsAppended};
-ghost use Rattle.mp_layout.specs.Stretch.{stretches};
 ghost use Rattle.mp_layout.specs.Order.{same_entry};
-ghost use Rattle.mp_layout.specs.Tables.{stsd, stts, stsc, stsz, common_size, chunk_offsets, stbl};
-ghost use Rattle.mp_layout.specs.Single.{one_chunk, durations, sizes, runs_of, rows_bytes, entries_bytes, sizes_bytes};
+ghost use Rattle.mp_layout.specs.Tables.{stsd, stsc, stsz, sizes, common_size, chunk_offsets, stbl};
+ghost use Rattle.mp_layout.specs.Single.{one_chunk, entries_bytes, sizes_bytes};
 
-use crate::buffer::{close_box, open_box, push_bytes, push_u32, set_u32};
+use crate::buffer::{close_box, open_box, push_bytes, push_fields};
 use crate::heads::push_box;
+use crate::times::{push_ctts, push_stss, push_stts};
 use mp_boxes::Field;
 use mp_ports::NoMemory;
 use mp_timeline::{EntryBytes, PlainSample, PlainTrack};
+use std::alloc::Global;
 
 /// Appends the sample entries, in order.
 fn push_entries(out: &mut Vec<u8>, entries: &[EntryBytes]) -> Result<(), NoMemory>
@@ -33,54 +35,12 @@ fn push_stsd(out: &mut Vec<u8>, entries: &[EntryBytes]) -> Result<(), NoMemory>
     ensures { OnOk result (IsAppended out.old.items out.new.items (2 ^ 26) (box_bytes (stsd entries.now))) }
 {
     let at = open_box(out, *b"stsd")?;
-    push_u32(out, 0)?;
-    push_u32(out, entries.len() as u32)?;
+    let fields = [
+        Field::version_and_flags(false, 0),
+        Field::U32(entries.len() as u32),
+    ];
+    push_fields(out, &fields)?;
     push_entries(out, entries)?;
-    close_box(out, at);
-    Ok(())
-}
-
-/// How many samples from the first on have this duration.
-fn run_len(samples: &[PlainSample], dur: u32) -> usize
-    ensures { result ≡ prefix_len (λ sample. sample.dur == dur) samples.now }
-{
-    samples
-        .iter()
-        .take_while(|sample| sample.dur == dur)
-        .count()
-}
-
-/// Appends the longest runs of equal durations, and answers how many they are.
-fn push_runs(out: &mut Vec<u8>, samples: &[PlainSample]) -> Result<u32, NoMemory>
-    requires { length samples.now ≤ 8388608 }
-    ensures count { IfOk result (λ runs. runs ≡ length (runs_of (durations samples.now))) }
-    ensures rows { OnOk result (IsAppended out.old.items out.new.items (2 ^ 26) (rows_bytes (runs_of (durations samples.now)))) }
-{
-    let mut runs = 0;
-    let mut at = 0;
-    while at < samples.len() {
-        let first = &samples[at];
-        let dur = first.dur;
-        let count = run_len(&samples[at..], dur);
-        push_u32(out, count as u32)?;
-        push_u32(out, dur)?;
-        runs += 1;
-        at += count;
-    }
-    Ok(runs)
-}
-
-/// Appends `stts`.
-fn push_stts(out: &mut Vec<u8>, samples: &[PlainSample]) -> Result<(), NoMemory>
-    requires { length samples.now ≤ 8388608 }
-    ensures { OnOk result (IsAppended out.old.items out.new.items (2 ^ 27) (box_bytes (stts samples.now))) }
-{
-    let at = open_box(out, *b"stts")?;
-    push_u32(out, 0)?;
-    let count_at = out.len();
-    push_u32(out, 0)?;
-    let runs = push_runs(out, samples)?;
-    set_u32(out, count_at, runs);
     close_box(out, at);
     Ok(())
 }
@@ -136,7 +96,7 @@ fn push_sizes(out: &mut Vec<u8>, common: u32, samples: &[PlainSample]) -> Result
         return Ok(());
     }
     for sample in samples {
-        push_u32(out, sample.bytes.len() as u32)?;
+        push_fields(out, &[Field::U32(sample.bytes.len() as u32)])?;
     }
     Ok(())
 }
@@ -148,10 +108,13 @@ fn push_stsz(out: &mut Vec<u8>, samples: &[PlainSample]) -> Result<(), NoMemory>
     ensures { OnOk result (IsAppended out.old.items out.new.items (2 ^ 26) (box_bytes (stsz samples.now))) }
 {
     let at = open_box(out, *b"stsz")?;
-    push_u32(out, 0)?;
     let common = common_size(samples);
-    push_u32(out, common)?;
-    push_u32(out, samples.len() as u32)?;
+    let fields = [
+        Field::version_and_flags(false, 0),
+        Field::U32(common),
+        Field::U32(samples.len() as u32),
+    ];
+    push_fields(out, &fields)?;
     push_sizes(out, common, samples)?;
     close_box(out, at);
     Ok(())
@@ -170,13 +133,20 @@ fn push_stco(out: &mut Vec<u8>, place: u32) -> Result<(), NoMemory>
 }
 
 /// Appends `stbl` of a track whose samples are one chunk at that place.
-pub fn push_stbl(out: &mut Vec<u8>, track: &PlainTrack, place: u32) -> Result<(), NoMemory>
+pub fn push_stbl(
+    alloc: Global,
+    out: &mut Vec<u8>,
+    track: &PlainTrack,
+    place: u32,
+) -> Result<(), NoMemory>
     requires { IsPlainTrack track.now }
     ensures { OnOk result (IsAppended out.old.items out.new.items (2 ^ 29) (box_bytes (stbl track.now (one_chunk track.now place)))) }
 {
     let at = open_box(out, *b"stbl")?;
     push_stsd(out, &track.entries)?;
-    push_stts(out, &track.samples)?;
+    push_stts(alloc, out, &track.samples)?;
+    push_ctts(alloc, out, &track.samples)?;
+    push_stss(alloc, out, &track.samples)?;
     push_stsc(out, &track.samples)?;
     push_stsz(out, &track.samples)?;
     push_stco(out, place)?;

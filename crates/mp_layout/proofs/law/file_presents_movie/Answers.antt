@@ -14,7 +14,7 @@ returns-clause-exact c =
       handler = c.headers_are_read.ensures.handler;
       name = c.headers_are_read.ensures.name;
     } in
-    file_presents_movie boxes headers
+    file_presents_movie boxes headers c.entries_are_kept.ensures c.tables_are_read.ensures.durations
 
 pub returns-clause-same : goal.returns-clause-same
 returns-clause-same c = λ movie single. c.sameness_is_equality.ensures.presented (file_bytes movie 0) movie (has_scales movie single) (returns-clause-exact c movie single)

@@ -1,5 +1,6 @@
 use Rattle.std.proofs.Common.{◌≡◌, ◌+◌, ◌*◌, ◌≤◌, ◌++◌, length, drop}
-use Rattle.mp_layout.specs.Single.{sizes, sizes_bytes}
+use Rattle.mp_layout.specs.Tables.{sizes}
+use Rattle.mp_layout.specs.Single.{sizes_bytes}
 use Rattle.mp_layout.proofs.tables.push_sizes.Given as goal
 
 -- what stands there and what is left are the whole

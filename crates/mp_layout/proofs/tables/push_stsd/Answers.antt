@@ -6,7 +6,6 @@ use Rattle.mp_layout.proofs.tables.push_stsd.Goals as goal
 pub returns : goal.returns
 unfolding stsd_body
 returns c =
-    let flags = opened_more _ _ _ _ _ _ _ _ _ c.in_ok-at.ensures.open c.in_ok-push_u32.ensures in
-    let count = opened_more _ _ _ _ _ _ _ _ _ flags c.in_ok-push_u32-2.ensures in
-    let entries = opened_more _ _ _ _ _ _ _ _ _ count c.in_ok-push_entries.ensures in
+    let fields = opened_more _ _ _ _ _ _ _ _ _ c.in_ok-at.ensures.open (rw c.version_and_flags.ensures at c.in_ok-push_fields.ensures) in
+    let entries = opened_more _ _ _ _ _ _ _ _ _ fields c.in_ok-push_entries.ensures in
     appended_within _ _ _ _ _ (c.close_box.ensures _ _ _ _ entries) (omega arith)

@@ -8,9 +8,7 @@ use Rattle.mp_layout.proofs.tables.push_stsz.Goals as goal
 pub returns : goal.returns
 unfolding stsz_body
 returns c =
-    let flags = opened_more _ _ _ _ _ _ _ _ _ c.in_ok-at.ensures.open c.in_ok-push_u32.ensures in
-    let common = opened_more _ _ _ _ _ _ _ _ _ flags c.in_ok-push_u32-2.ensures in
-    let count = opened_more _ _ _ _ _ _ _ _ _ common c.in_ok-push_u32-3.ensures in
-    let sizes = opened_more _ _ _ _ _ _ _ _ _ count c.in_ok-push_sizes.ensures in
+    let fields = opened_more _ _ _ _ _ _ _ _ _ c.in_ok-at.ensures.open (rw c.version_and_flags.ensures at c.in_ok-push_fields.ensures) in
+    let sizes = opened_more _ _ _ _ _ _ _ _ _ fields c.in_ok-push_sizes.ensures in
     let boxed = rw c.common_size-common.ensures at (appended_within _ _ _ (2 ^ 26) _ (c.close_box.ensures _ _ _ _ sizes) (omega arith)) in
     rw (length-map c.args.samples.now (λ (sample : SampleRecord). length sample.bytes)) boxed
