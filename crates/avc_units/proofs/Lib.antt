@@ -1,0 +1,4 @@
+mod Fronts
+mod Numbers
+mod Walking
+mod Writing

@@ -1,0 +1,11 @@
+//! The units of an H.264 byte stream, the bits of a unit, and tables of syntax elements (ITU-T H.264, Annex B, 7.2, 7.3
+//! and 9.1).
+#![tactic(auto)]
+
+mod bits;
+mod elements;
+mod law;
+
+pub use bits::Bits;
+pub use elements::ElementFail;
+pub use law::{elements_in_turn, fronts_suffice, tables_are_read, tables_in_turn};
