@@ -1,4 +1,10 @@
+mod Answering
+mod Cleaning
+mod Cutting
+mod Faults
 mod Fronts
 mod Numbers
+mod Passing
+mod Scanning
 mod Walking
 mod Writing

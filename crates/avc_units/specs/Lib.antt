@@ -4,3 +4,7 @@ pub mod Table
 pub mod Elements
 pub mod Answer
 pub mod Law
+pub mod Emulation
+pub mod Units
+pub mod Reader
+pub mod Scan

@@ -4,8 +4,20 @@
 
 mod bits;
 mod elements;
+mod emulation;
 mod law;
+mod reader;
+mod search;
+mod window;
 
 pub use bits::Bits;
 pub use elements::ElementFail;
-pub use law::{elements_in_turn, fronts_suffice, tables_are_read, tables_in_turn};
+pub use emulation::clean;
+pub use law::{
+    elements_in_turn, fronts_are_cleaned, fronts_suffice, tables_are_read, tables_in_turn,
+    units_or_fault,
+};
+pub use reader::{UnitFail, UnitReader, UnitSpan};
+
+#[cfg(test)]
+mod tests;

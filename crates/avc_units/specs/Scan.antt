@@ -1,0 +1,77 @@
+-- A byte stream read from left to right: the next unit of a text, and what a scan knows of it piece by piece.
+use Rattle.std.specs.Prelude.{◌≡◌, ◌⊎◌, ℕ, zero, suc, ◌+◌, ◌-◌, ◌<◌, ◌≤◌, List, [], ◌∷◌, ◌++◌, drop, take, replicate, if◌then◌else◌, Option, Some, None, IfSome, Result, Ok, Err}
+use Rattle.mp_ports.specs.Answer.{bad_at}
+use Rattle.mp_ports.specs.declared.code.Code.TheVariants.{UnitFraming, UnitLimit}
+use Rattle.avc_units.specs.declared.window.First.{First}
+use Rattle.avc_units.specs.declared.reader.UnitSpan.{UnitSpan}
+use Rattle.avc_units.specs.declared.reader.UnitFail.{UnitFail}
+use Rattle.avc_units.specs.declared.reader.UnitFail.TheVariants.{Bad as Refused, ReadFault}
+use Rattle.avc_units.specs.Reading.{zeros_of}
+use Rattle.avc_units.specs.Units.{ends}
+
+-- the length of the unit that stands in front
+unfoldable pub unit_len : List ℕ → ℕ
+unit_len [] = 0
+unit_len (x ∷ rest) = if ends (x ∷ rest) then 0 else suc (unit_len rest)
+
+-- what comes next
+pub data Step : Type 0 where
+  NoUnit : Step
+  OneUnit : (from len : ℕ) → Step
+  Fault : (place : ℕ) → Step
+
+-- a unit of this length
+abbrev pub found : ℕ → ℕ → Step
+found from zero = Fault from
+found from (suc n) = OneUnit from (suc n)
+
+-- what the first byte that isn't 0 says, behind so many zeros
+abbrev pub step_from : ℕ → List ℕ → Step
+step_from z [] = NoUnit
+step_from (suc (suc z)) (suc zero ∷ rest) = found (suc (suc (suc z))) (unit_len rest)
+step_from z (x ∷ rest) = Fault z
+
+-- what comes next in a text
+abbrev pub step : List ℕ → Step
+step text = step_from (zeros_of text) (drop (zeros_of text) text)
+
+-- how long a unit is still, of which so many zeros were the last bytes
+abbrev pub left_of : ℕ → List ℕ → ℕ
+left_of z text = unit_len (replicate z 0 ++ text)
+
+-- ---- where the file is told
+
+-- n bytes from that place in the window are those of the file
+abbrev pub Holds : Option (List ℕ) → ℕ → ℕ → List ℕ → Type 0
+Holds bytes from n window = IfSome bytes (λ b. take n window ≡ take n (drop from b))
+
+-- from here on so many zeros were seen
+abbrev pub HasZeros : Option (List ℕ) → ℕ → ℕ → Type 0
+HasZeros bytes from z = IfSome bytes (λ b. zeros_of (drop from b) ≡ z + zeros_of (drop (from + z) b))
+
+-- the first byte that isn't 0, at its place, and the bytes behind it in the window
+abbrev pub IsFirst : List ℕ → ℕ → Option First → List ℕ → Type 0
+IsFirst b from None window = drop (from + zeros_of (drop from b)) b ≡ []
+IsFirst b from (Some first) window =
+    (first.place ≡ from + zeros_of (drop from b)) × (drop first.place b ≡ first.byte ∷ drop (first.place + 1) b)
+    × (take (first.held - (first.index + 1)) (drop (first.index + 1) window) ≡ take (first.held - (first.index + 1)) (drop (first.place + 1) b))
+
+-- the byte stands in the window, and in the file from that place on
+pub record IsHeld (from size window : ℕ) (first : First) : Type 0 where
+  pub low : from ≤ first.place
+  pub high : first.place + (first.held - first.index) ≤ size
+  pub inside : first.index < first.held
+  pub room : first.held ≤ window
+
+-- n bytes of the unit were passed, of which so many zeros were the last
+abbrev pub HasPassed : Option (List ℕ) → ℕ → ℕ → ℕ → Type 0
+HasPassed bytes from n zeros = IfSome bytes (λ b. left_of 0 (drop from b) + zeros ≡ n + left_of zeros (drop (from + n) b))
+
+-- the answer of a reader that stands at that place
+abbrev pub Gives : List ℕ → ℕ → Result (Option UnitSpan) UnitFail → Type 0
+Gives b at (Ok None) = step (drop at b) ≡ NoUnit
+Gives b at (Ok (Some s)) = (f : ℕ) × (step (drop at b) ≡ OneUnit f s.len) × (s.from ≡ at + f)
+Gives b at (Err (Refused bad)) =
+    ((f : ℕ) × (step (drop at b) ≡ Fault f) × (bad ≡ bad_at UnitFraming (at + f)))
+    ⊎ ((f n : ℕ) × (step (drop at b) ≡ OneUnit f n) × (16777216 < n) × (bad ≡ bad_at UnitLimit (at + f)))
+Gives b at (Err ReadFault) = Unit {0}
