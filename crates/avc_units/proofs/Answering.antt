@@ -1,5 +1,5 @@
 -- From the first byte and the end of a unit to the answer.
-use Rattle.std.proofs.Common.{◌≡◌, ℕ, ◌+◌, ◌-◌, ◌<◌, ◌≤◌, inl, inr, List, [], ◌∷◌, ◌++◌, length, take, drop, Option, Some, None, IfSome, Result, Ok, Err, refl, sym, ap, subst, ◌∙◌, arith}
+use Rattle.std.proofs.Common.{◌≡◌, ℕ, ◌+◌, ◌-◌, ◌<◌, ◌≤◌, inl, inr, List, [], ◌∷◌, ◌++◌, length, take, drop, Option, Some, None, IfSome, Result, Ok, Err, sym, ap, subst, ◌∙◌, arith}
 use Rattle.mp_ports.specs.Answer.{bad_at}
 use Rattle.mp_ports.specs.declared.code.Code.TheVariants.{UnitFraming, UnitLimit}
 use Rattle.avc_units.specs.declared.reader.UnitSpan.{UnitSpan}
@@ -7,10 +7,10 @@ use Rattle.avc_units.specs.declared.reader.UnitFail.{UnitFail}
 use Rattle.avc_units.specs.declared.reader.UnitFail.TheVariants.{Bad as Refused, ReadFault}
 use Rattle.avc_units.specs.declared.window.First.{First}
 use Rattle.avc_units.specs.Units.{Placed, HasUnits}
-use Rattle.avc_units.specs.Reader.{IsNextUnit, end_after}
+use Rattle.avc_units.specs.Reader.{IsNextUnit}
 use Rattle.avc_units.specs.Reading.{zeros_of}
 use Rattle.avc_units.specs.Scan.{unit_len, found, step, IsFirst, Gives}
-use Rattle.avc_units.specs.Scan.Step.{OneUnit, Fault}
+use Rattle.avc_units.specs.Scan.Step.{OneUnit}
 use Rattle.avc_units.proofs.Passing.{drop_more}
 use Rattle.avc_units.proofs.Cutting.{start-is, found-some, step-is, next-bytes, has-more, none-zeros}
 use Rattle.avc_units.proofs.Faults.{fault-is, fault-first}

@@ -1,5 +1,5 @@
 -- One byte further in a unit that is cleaned.
-use Rattle.std.proofs.Common.{◌≡◌, ◌≢◌, ℕ, zero, suc, ◌+◌, ◌<◌, ◌≤◌, List, [], ◌∷◌, ◌++◌, length, drop, replicate, refl, sym, ap, ◌∙◌, arith}
+use Rattle.std.proofs.Common.{◌≡◌, ◌≢◌, ℕ, zero, suc, ◌+◌, ◌<◌, ◌≤◌, List, [], ◌∷◌, ◌++◌, drop, refl, ap, arith}
 use Rattle.avc_units.specs.Emulation.{clean, clean_behind}
 
 zero_first : (rest : List ℕ) → clean (0 ∷ rest) ≡ 0 ∷ drop 1 (clean (0 ∷ rest))

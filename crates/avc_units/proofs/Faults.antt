@@ -1,5 +1,5 @@
 -- What comes next is a unit, a fault or nothing, and it is just one of them.
-use Rattle.std.proofs.Common.{◌≡◌, ◌≢◌, ◌⊎◌, ℕ, zero, suc, ◌+◌, ◌<◌, ◌≤◌, true, false, inl, inr, List, [], ◌∷◌, ◌++◌, length, drop, replicate, refl, sym, ap, subst, ◌∙◌, arith}
+use Rattle.std.proofs.Common.{◌≡◌, ◌≢◌, ◌⊎◌, ℕ, zero, suc, ◌+◌, ◌<◌, ◌≤◌, true, inl, inr, List, [], ◌∷◌, ◌++◌, length, drop, replicate, refl, sym, ap, subst, ◌∙◌, arith}
 use Rattle.std.proofs.lemmas.List.{drop_all}
 use Rattle.avc_units.specs.Reading.{zeros_of}
 use Rattle.avc_units.specs.Units.{only_zeros, ends, Placed, HasUnitsFrom, HasUnits, AreUnits, IsNoStart, IsEmptyUnit, IsFault, HasFault, HasUnitsOrFault}

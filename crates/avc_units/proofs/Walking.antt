@@ -1,9 +1,5 @@
 -- A walk through two tables is one through the first, and then one through the second.
-use Rattle.std.proofs.Common.{◌≡◌, ℕ, zero, suc, ◌<◌, length, arith, List, Option, Some, None, Ok, Err, refl, ◌∙◌}
-use Rattle.std.proofs.lemmas.Bool.{ne_eqb}
-use Rattle.avc_units.specs.declared.elements.ElementFail.{ElementFail}
-use Rattle.avc_units.specs.declared.elements.ElementFail.TheVariants.{Syntax}
-use Rattle.avc_units.specs.Bits.{Kind}
+use Rattle.std.proofs.Common.{◌≡◌, ℕ, List, Option, Some, None, refl}
 use Rattle.avc_units.specs.Reading.{read}
 use Rattle.avc_units.specs.Table.{Table, ◌>>=◌, walk, and_then, after}
 use Rattle.avc_units.specs.Table.Table.{Done, Fail, Element}

@@ -1,7 +1,6 @@
 -- Single elements as tables, by their descriptors and the ranges of their values (H.264, 7.2 and 7.4).
 use Rattle.std.specs.Prelude.{ℕ, ◌==◌, ◌||◌, Bool, nat_lt, if◌then◌else◌, ℤ, int_lt}
 use Rattle.avc_units.specs.declared.elements.ElementFail.TheVariants.{Syntax}
-use Rattle.avc_units.specs.Bits.{Kind}
 use Rattle.avc_units.specs.Bits.Kind.{U, Ue}
 use Rattle.avc_units.specs.Reading.{signed}
 use Rattle.avc_units.specs.Table.{Table, ◌>>=◌}

@@ -1,6 +1,6 @@
 //! Streams, units and bits byte by byte, as ITU-T H.264 lays them out (Annex B, 7.3.1, 7.2 and 9.1), and what they give.
 
-ghost use Rattle.std.specs.Prelude.{◌≡◌, ◌<◌, ◌≤◌, length};
+ghost use Rattle.std.specs.Prelude.{◌≡◌, ◌≤◌, [], IfOk};
 
 use super::*;
 use mp_ports::{Bad, Code, Folder, MemFile, MemFolder};
@@ -14,7 +14,9 @@ const LARGE: usize = 4096;
 const LONGEST: usize = 16_777_216;
 
 /// A folder of one file, whose calls of these numbers fail; opening it is the first.
-fn folder_of(alloc: Global, bytes: Vec<u8>, failing: &[u64]) -> Result<MemFolder, Fail> {
+fn folder_of(alloc: Global, bytes: Vec<u8>, failing: &[u64]) -> Result<MemFolder, Fail>
+    ensures { IfOk result (λ folder. folder.folder.opened ≡ []) }
+{
     let mut files = Vec::new(alloc);
     files.push(MemFile {
         name: String::from_str(alloc, "a")?,

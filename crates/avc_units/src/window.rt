@@ -72,7 +72,8 @@ pub(crate) fn first_byte<F: Folder>(
     requires from { from ≤ source.size }
     requires window { 0 < length window.old }
     ensures inside { IfOk result (λ found. IfSome found (λ first. IsHeld from source.size (length window.old) first)) }
-    ensures first { IfOk result (λ found. IfSome (opened_at (F.state folder.old) source.file).bytes (λ b. IsFirst b from found window.new)) }
+    ensures first { IfOk result
+        (λ found. IfSome (opened_at (F.state folder.old) source.file).bytes (λ b. IsFirst b from found window.new)) }
     ensures same { OnOk result (F.state folder.new ≡ F.state folder.old) }
     ensures failed { OnErr result (FailsToRead (F.state folder.old) (F.state folder.new)) }
 {
@@ -116,7 +117,8 @@ pub(crate) fn end_of<F: Folder>(
     requires window { 0 < length window.old }
     requires holds { Holds (opened_at (F.state folder.old) source.file).bytes from (held - start) (drop start window.old) }
     ensures inside { IfOk result (λ end. (from ≤ end) × (end ≤ source.size)) }
-    ensures end { IfOk result (λ end. IfSome (opened_at (F.state folder.old) source.file).bytes (λ b. end ≡ from + unit_len (drop from b))) }
+    ensures end { IfOk result
+        (λ end. IfSome (opened_at (F.state folder.old) source.file).bytes (λ b. end ≡ from + unit_len (drop from b))) }
     ensures same { OnOk result (F.state folder.new ≡ F.state folder.old) }
     ensures failed { OnErr result (FailsToRead (F.state folder.old) (F.state folder.new)) }
 {
@@ -134,7 +136,8 @@ pub(crate) fn end_of<F: Folder>(
     )
 }
 
-// Where the unit ends that begins at `from`, of which the bytes up to `passed` are passed, the last of them `zeros` zeros.
+// Where the unit ends that begins at `from`, of which the bytes up to `passed` are passed, the last of them `zeros`
+// zeros.
 fn end_behind<F: Folder>(
     folder: &mut F,
     source: Source,
@@ -153,7 +156,8 @@ fn end_behind<F: Folder>(
     requires window { 0 < length window.old }
     requires passed { HasPassed (opened_at (F.state folder.old) source.file).bytes from (passed - from) zeros }
     ensures inside { IfOk result (λ end. (from ≤ end) × (end ≤ source.size)) }
-    ensures end { IfOk result (λ end. IfSome (opened_at (F.state folder.old) source.file).bytes (λ b. end ≡ from + unit_len (drop from b))) }
+    ensures end { IfOk result
+        (λ end. IfSome (opened_at (F.state folder.old) source.file).bytes (λ b. end ≡ from + unit_len (drop from b))) }
     ensures same { OnOk result (F.state folder.new ≡ F.state folder.old) }
     ensures failed { OnErr result (FailsToRead (F.state folder.old) (F.state folder.new)) }
 {

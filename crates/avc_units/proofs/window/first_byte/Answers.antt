@@ -1,4 +1,4 @@
-use Rattle.std.proofs.Common.{◌≡◌, ◌≤◌, ◌+◌, ◌<◌, [], length, take, refl, arith, rules}
+use Rattle.std.proofs.Common.{◌≡◌, ◌≤◌, ◌+◌, [], length, take, refl, arith, rules}
 use Rattle.std.proofs.lemmas.List.{length-take-le}
 use Rattle.avc_units.proofs.Passing.{zeros_on, first_found, first_none, told_inside, zeros_few}
 use Rattle.avc_units.proofs.window.first_byte.Goals as goal

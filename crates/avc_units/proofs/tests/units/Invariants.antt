@@ -1,0 +1,11 @@
+use Rattle.std.proofs.Common.{◌≡◌, ◌<◌, ◌≤◌, length}
+use Rattle.mp_ports.specs.Folder.{opened_at}
+use Rattle.avc_units.proofs.tests.units.Given as goal
+
+abbrev pub invariant-loop : goal.invariant-loop
+invariant-loop l = record {
+  opened : l.file < length l.folder.folder.opened;
+  file : l.reader.file ≡ l.file;
+  size : l.reader.size ≡ (opened_at l.folder.folder l.file).size;
+  window : 16 ≤ length l.window.items;
+}
