@@ -1,11 +1,9 @@
-// Whole runs over a folder and a report in memory, and the real ones.
+// Whole runs over a folder and a report in memory.
 ghost use Rattle.std.specs.Prelude.{◌≡◌, ◌<◌, [], None, IfOk, vec_len};
 
-use crate::real::{RealFolder, RealReport};
 use crate::{Ending, WordKind, mp4edit};
-use mp_ports::{Bad, Code, Folder, MemFile, MemFolder, MemReport, OpenFail, Report};
+use mp_ports::{Bad, Code, MemFile, MemFolder, MemReport};
 use std::alloc::Global;
-use std::fs;
 use std::test::Fail;
 
 // An ADTS frame of nine bytes (ISO/IEC 14496-3, 1.A.2): AAC LC, 44100 Hz, two channels, the payload `AA BB`.
@@ -394,32 +392,5 @@ fn endings_have_their_statuses_and_texts(rt: HostRuntime) -> Result<(), Fail> {
         assert_eq!(rt; ending.status(), 1, "{text}");
         assert_eq!(rt; ending.to_string(alloc)?.as_str(), text);
     }
-    Ok(())
-}
-
-#[test]
-fn the_real_folder_reads_and_writes(rt: HostRuntime) -> Result<(), Fail> {
-    let alloc = rt.alloc();
-    let name = "mp4edit-test-folder.bin";
-    let mut folder = RealFolder::new(&rt, alloc);
-    assert_eq!(rt; folder.open(name), Err(OpenFail::Missing));
-    folder.create(String::from_str(alloc, name)?)?;
-    folder.append(b"abc")?;
-    folder.append(b"de")?;
-    folder.finish()?;
-    let file = folder.open(name)?;
-    let size = folder.size(file);
-    assert_eq!(rt; size, 5);
-    let mut middle = [0u8; 3];
-    folder.read_at(file, 1, &mut middle)?;
-    assert_eq!(rt; middle, *b"bcd");
-    fs::remove_file(&rt, name)?;
-    Ok(())
-}
-
-#[test]
-fn the_real_report_is_standard_output(rt: HostRuntime) -> Result<(), Fail> {
-    let mut report = RealReport::new(&rt);
-    report.say(b"said\n")?;
     Ok(())
 }

@@ -1,13 +1,13 @@
 // The files of the working folder, and of paths.
 ghost use Rattle.std.specs.Prelude.{◌≡◌, [], None};
 
+use super::file::{open_sized, read_exact_from};
+use super::output::RealOutput;
 use mp_ports::{Folder, OpenFail, PortFault, raise};
 use std::alloc::Global;
-use std::fs::OpenFile;
-use std::io::{ErrorKind, Read, Seek, SeekFrom, Write};
+use std::io::ErrorKind;
 use std::marker::Model;
 use std::rt::Files;
-use std::{fs, io};
 
 #[derive(Drop)]
 struct RealFile<F: Drop> {
@@ -25,29 +25,13 @@ impl<F: Drop> Model for RealFile<F> {
     ghost view = { λ f. record { name = string_bytes f.name; size = f.size; bytes = None } };
 }
 
-#[derive(Drop)]
-struct RealOutput<F: Drop> {
-    name: String,
-    finished: bool,
-    file: F,
-}
-
-impl<F: Drop> Model for RealOutput<F> {
-    ghost use Rattle.std.specs.Prelude.{string_bytes};
-    ghost use Rattle.mp_ports.specs.Folder.{Output};
-
-    ghost Value = { Output };
-
-    ghost view = { λ o. record { name = string_bytes o.name; finished = o.finished } };
-}
-
 /// The files of the system, by their paths. What it holds, reads and writes it doesn't tell.
 #[derive(Drop)]
 pub struct RealFolder<'a, R: Files> {
     rt: &'a R,
     alloc: Global,
     files: Vec<RealFile<R::File>>,
-    output: Option<RealOutput<R::File>>,
+    output: Option<RealOutput<'a, R>>,
     read_faults: u64,
     write_faults: u64,
     misses: u64,
@@ -70,19 +54,6 @@ impl<'a, R: Files> RealFolder<'a, R> {
             misses: 0,
         }
     }
-}
-
-// The file of that path, and its size in bytes.
-fn open_sized<R: Files>(rt: &R, name: &str) -> io::Result<(R::File, u64)> {
-    let file = fs::open(rt, name)?;
-    let size = file.metadata()?.len();
-    Ok((file, size))
-}
-
-// Fills `into` from that place on; the end of the file before it is full is an error.
-fn read_exact_from<F: Read + Seek>(file: &mut F, from: u64, into: &mut [u8]) -> io::Result<()> {
-    file.seek(SeekFrom::Start(from))?;
-    file.read_exact(into)
 }
 
 impl<R: Files> Folder for RealFolder<'_, R> {
@@ -139,13 +110,9 @@ impl<R: Files> Folder for RealFolder<'_, R> {
     }
 
     fn create(&mut self, name: String) -> Result<(), PortFault> {
-        match fs::create(self.rt, name.as_str()) {
-            Ok(file) => {
-                self.output = Some(RealOutput {
-                    name,
-                    finished: false,
-                    file,
-                });
+        match RealOutput::create(self.rt, name) {
+            Ok(output) => {
+                self.output = Some(output);
                 Ok(())
             }
             Err(_) => {
@@ -159,7 +126,7 @@ impl<R: Files> Folder for RealFolder<'_, R> {
         let Some(output) = &mut self.output else {
             return Err(PortFault);
         };
-        if output.file.write_all(piece).is_err() {
+        if output.append(piece).is_err() {
             raise(&mut self.write_faults);
             return Err(PortFault);
         }
@@ -170,11 +137,10 @@ impl<R: Files> Folder for RealFolder<'_, R> {
         let Some(output) = &mut self.output else {
             return Err(PortFault);
         };
-        if output.file.flush().is_err() {
+        if output.finish().is_err() {
             raise(&mut self.write_faults);
             return Err(PortFault);
         }
-        output.finished = true;
         Ok(())
     }
 }
