@@ -1,0 +1,7 @@
+pub mod Set
+pub mod Format
+pub mod Size
+pub mod Usability
+pub mod Sequence
+pub mod Picture
+pub mod Configuration

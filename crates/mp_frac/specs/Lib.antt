@@ -1,0 +1,3 @@
+pub mod Time
+pub mod Divisors
+pub mod Law
