@@ -39,8 +39,8 @@ fn append_sets(out: &mut Vec<u8>, sets: &[Vec<u8>]) -> Result<(), NoMemory>
     Ok(())
 }
 
-/// The body of `avcC` of these parameter sets (ISO/IEC 14496-15, 5.3.3.1): of the one whose fields these are, and of one
-/// to 255 picture parameter sets.
+/// The body of `avcC` (ISO/IEC 14496-15, 5.3.3.1) of the sequence parameter set whose fields these are, and of one to
+/// 255 picture parameter sets.
 #[tactic(auto, unfolding(crate::specs::Configuration::configuration))]
 pub fn make_avcc(
     alloc: Global,

@@ -93,8 +93,8 @@ fn read_sequence(bits: &mut Bits<'_>) -> Result<Sps, ElementFail>
 
 /// Reads a sequence parameter set (H.264, 7.3.2.1.1) from a cleaned unit.
 ///
-/// `SetProfile` for a profile other than 66, 77, 88, 100, 110 and 122, `Chroma` for 4:4:4, `PocType` for order counts of
-/// type 1, `SetSyntax` where the bits end before an element, or a value is out of its range.
+/// `SetProfile` for a profile other than 66, 77, 88, 100, 110 and 122, `Chroma` for 4:4:4, `PocType` for order counts
+/// of type 1, `SetSyntax` where the bits end before an element, or a value is out of its range.
 pub fn read_sps(clean: &[u8]) -> Result<Sps, Code>
     ensures { SaysCode SetSyntax sequence (bits_of (drop 1 clean.now)) result }
 {

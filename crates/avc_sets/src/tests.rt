@@ -1,12 +1,12 @@
-//! Parameter sets of streams that real encoders made, and laid out by hand. What they give was read off them by a script that
-//! follows ITU-T H.264, 7.3.2.1.1, 7.3.2.2 and E.1.1; sizes, profiles and levels are also those that `ffprobe` tells.
+//! Parameter sets of streams that real encoders made, and laid out by hand. What they give was read off them by a script
+//! that follows ITU-T H.264, 7.3.2.1.1, 7.3.2.2 and E.1.1; sizes, profiles and levels are those that `ffprobe` tells.
 use super::*;
 use mp_ports::Code;
 use std::test;
 use std::test::Fail;
 
-/// What a sequence parameter set says: profile, level, chroma format, luma depth, the bits of frame numbers and of order
-/// counts, whether pictures are frames alone, width, height, timing.
+/// What a sequence parameter set says: profile, level, chroma format, luma depth, the bits of frame numbers and of
+/// order counts, whether pictures are frames alone, width, height, timing.
 type Said = (u8, u8, u8, u8, u8, u8, bool, u16, u16, Option<(u32, u32)>);
 
 fn said(clean: &[u8]) -> Result<Said, Code> {
