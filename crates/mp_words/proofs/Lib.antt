@@ -1,0 +1,5 @@
+pub mod LastPlaces
+pub mod Digits
+pub mod JoinedTexts
+pub mod LineSteps
+pub mod JobsAreShort

@@ -1,0 +1,448 @@
+// Lines, whose words a stroke divides, and their answers.
+pub const LINES: &str = "\
+-frag => word 1 Unknown
+-add => word 1 Missing
+-rem|0 => word 2 Argument
+-add|a.aac => word 0 NoOut
+-out|b.mp4|-out|c.mp4 => word 3 OutTwice
+-info|a.mp4|-out|b.mp4 => word 3 Mixed
+-add|a.mp4|-out|a.mp4 => word 4 SameName
+-info|a.mp4|x => word 3 Unknown
+-info|a.mp4|-json => word 3 Mixed
+-add|-info => word 2 Argument
+-add|-out => word 2 Argument
+-info|a.aac|-json => word 2 Argument
+--help => word 1 Unknown
+--version => word 1 Unknown
+-rem|-out => word 2 Argument
+-info => word 1 Missing
+-out|a.mp4|-info|b.mp4 => word 3 Mixed
+-out|a.mp4|-out => word 3 OutTwice
+-rem|1|-gen => word 3 Mixed
+-add|a.aac|-out|b.mp4 => edit b.mp4 2 500; 1 add a.aac all -
+-add|a.aac|-delay|1=-0|-out|b.mp4 => edit b.mp4 3 500; 1 add a.aac all -; 2 delay 1 0
+-split-chunk|1.50:2|-out|o.mp4 => edit o.mp4 2 500; 1 cut 150/100 2/1
+-add|a#b.mp4#2|-out|o.mp4 => edit o.mp4 2 500; 1 add a#b.mp4 #2 -
+-out|o.mp4 => edit o.mp4 1 500
+-add|v.h264:fps=25|-out|o.mp4 => edit o.mp4 2 500; 1 add v.h264 all 25/1
+-split-chunk|2:1|-out|o.mp4 => edit o.mp4 2 500; 1 cut 2/1 1/1
+-add|a.mp4|-out|o.mp4 => edit o.mp4 2 500; 1 add a.mp4 all -
+-add|a.MP4|-out|o.mp4 => edit o.mp4 2 500; 1 add a.MP4 all -
+-add|a.Mp4|-out|o.mp4 => edit o.mp4 2 500; 1 add a.Mp4 all -
+-add|a.M4v|-out|o.mp4 => edit o.mp4 2 500; 1 add a.M4v all -
+-add|.mp4|-out|o.mp4 => edit o.mp4 2 500; 1 add .mp4 all -
+-add|.aac|-out|o.mp4 => edit o.mp4 2 500; 1 add .aac all -
+-add|.nhnt|-out|o.mp4 => edit o.mp4 2 500; 1 add .nhnt all -
+-add|.264|-out|o.mp4 => edit o.mp4 2 500; 1 add .264 all -
+-add|a.h264|-out|o.mp4 => edit o.mp4 2 500; 1 add a.h264 all -
+-add|a.aac|-out|o.mp4 => edit o.mp4 2 500; 1 add a.aac all -
+-add|a.AdTs|-out|o.mp4 => edit o.mp4 2 500; 1 add a.AdTs all -
+-add|a.nhnt|-out|o.mp4 => edit o.mp4 2 500; 1 add a.nhnt all -
+-add|a.NHNT|-out|o.mp4 => edit o.mp4 2 500; 1 add a.NHNT all -
+-add|a.media|-out|o.mp4 => word 2 Argument
+-add||-out|o.mp4 => word 2 Argument
+-add|a|-out|o.mp4 => word 2 Argument
+-add|mp4|-out|o.mp4 => word 2 Argument
+-add|aac|-out|o.mp4 => word 2 Argument
+-add|a.mp3|-out|o.mp4 => word 2 Argument
+-add|a.mp4 |-out|o.mp4 => word 2 Argument
+-add| a.mp4|-out|o.mp4 => edit o.mp4 2 500; 1 add  a.mp4 all -
+-add|a b.mp4|-out|o.mp4 => edit o.mp4 2 500; 1 add a b.mp4 all -
+-add|a.mp4.aac|-out|o.mp4 => edit o.mp4 2 500; 1 add a.mp4.aac all -
+-add|a.aac.mp4|-out|o.mp4 => edit o.mp4 2 500; 1 add a.aac.mp4 all -
+-add|a.srt|-out|o.mp4 => word 2 Argument
+-add|-add.mp4|-out|o.mp4 => edit o.mp4 2 500; 1 add -add.mp4 all -
+-add|-out.aac|-out|o.mp4 => edit o.mp4 2 500; 1 add -out.aac all -
+-add|x#y.aac|-out|o.mp4 => word 2 Argument
+-add|a.mp4#|-out|o.mp4 => word 2 Argument
+-add|a.mp4#0|-out|o.mp4 => word 2 Argument
+-add|a.mp4#1|-out|o.mp4 => edit o.mp4 2 500; 1 add a.mp4 #1 -
+-add|a.mp4#00|-out|o.mp4 => word 2 Argument
+-add|a.mp4#4294967296|-out|o.mp4 => word 2 Argument
+-add|a.mp4#video|-out|o.mp4 => edit o.mp4 2 500; 1 add a.mp4 video -
+-add|a.mp4#audio|-out|o.mp4 => edit o.mp4 2 500; 1 add a.mp4 audio -
+-add|a.mp4#Video|-out|o.mp4 => word 2 Argument
+-add|a.mp4#AUDIO|-out|o.mp4 => word 2 Argument
+-add|a.mp4# video|-out|o.mp4 => word 2 Argument
+-add|a.aac#1|-out|o.mp4 => word 2 Argument
+-add|a.aac#video|-out|o.mp4 => word 2 Argument
+-add|a.nhnt#1|-out|o.mp4 => word 2 Argument
+-add|a.h264#video|-out|o.mp4 => word 2 Argument
+-add|#1|-out|o.mp4 => word 2 Argument
+-add|#|-out|o.mp4 => word 2 Argument
+-add|a.mp4#1#2|-out|o.mp4 => word 2 Argument
+-add|a#b.mp4|-out|o.mp4 => word 2 Argument
+-add|a#b.mp4#video|-out|o.mp4 => edit o.mp4 2 500; 1 add a#b.mp4 video -
+-add|#.mp4#1|-out|o.mp4 => edit o.mp4 2 500; 1 add #.mp4 #1 -
+-add|a.mp4#1.mp4|-out|o.mp4 => word 2 Argument
+-add|a.mp4#-1|-out|o.mp4 => word 2 Argument
+-add|a.mp4#0000000001|-out|o.mp4 => edit o.mp4 2 500; 1 add a.mp4 #1 -
+-add|a.mp4#00000000001|-out|o.mp4 => word 2 Argument
+-add|a.mp4:fps=25|-out|o.mp4 => word 2 Argument
+-add|a.mp4#1:fps=25|-out|o.mp4 => word 2 Argument
+-add|a.mp4:fps=25#1|-out|o.mp4 => word 2 Argument
+-add|a.aac:fps=25|-out|o.mp4 => word 2 Argument
+-add|v.h264:fps=|-out|o.mp4 => word 2 Argument
+-add|v.h264:fps=0|-out|o.mp4 => word 2 Argument
+-add|v.h264:fps=1/0|-out|o.mp4 => word 2 Argument
+-add|v.h264:fps=0/1|-out|o.mp4 => word 2 Argument
+-add|v.h264:fps=30000/1001|-out|o.mp4 => edit o.mp4 2 500; 1 add v.h264 all 30000/1001
+-add|v.h264:fps=/25|-out|o.mp4 => word 2 Argument
+-add|v.h264:fps=1/2/3|-out|o.mp4 => word 2 Argument
+-add|v.h264:fps=4294967295/4294967295|-out|o.mp4 => edit o.mp4 2 500; 1 add v.h264 all 4294967295/4294967295
+-add|v.h264:fps=4294967296|-out|o.mp4 => word 2 Argument
+-add|v.h264:fps=25/4294967296|-out|o.mp4 => word 2 Argument
+-add|v.h264:fps=025/01|-out|o.mp4 => edit o.mp4 2 500; 1 add v.h264 all 25/1
+-add|v.h264:fps=25:fps=30|-out|o.mp4 => word 2 Argument
+-add|v.h264:fps=x:fps=30|-out|o.mp4 => word 2 Argument
+-add|a:fps=25.h264|-out|o.mp4 => word 2 Argument
+-add|a:fps=1.h264:fps=2|-out|o.mp4 => edit o.mp4 2 500; 1 add a:fps=1.h264 all 2/1
+-add|v.h264:FPS=25|-out|o.mp4 => word 2 Argument
+-add|v.h264:fps=-25|-out|o.mp4 => word 2 Argument
+-add|v.h264:fps=25.0|-out|o.mp4 => word 2 Argument
+-add|:fps=25|-out|o.mp4 => word 2 Argument
+-add|v.h264#1:fps=25|-out|o.mp4 => word 2 Argument
+-add|v.h264:fps=#25|-out|o.mp4 => word 2 Argument
+-add|v:fps=#.mp4#1|-out|o.mp4 => word 2 Argument
+-add|a:fps=1#b.mp4|-out|o.mp4 => word 2 Argument
+-add|#:fps=2|-out|o.mp4 => word 2 Argument
+-add|ä.mp4|-out|o.mp4 => edit o.mp4 2 500; 1 add ä.mp4 all -
+-add|a.ſp4|-out|o.mp4 => word 2 Argument
+-add|a.mp4K|-out|o.mp4 => word 2 Argument
+-add|a.M4Ł|-out|o.mp4 => word 2 Argument
+-add|ä#ü.mp4#2|-out|o.mp4 => edit o.mp4 2 500; 1 add ä#ü.mp4 #2 -
+-add|€.h264:fps=5|-out|o.mp4 => edit o.mp4 2 500; 1 add €.h264 all 5/1
+-add|a.ΜP4|-out|o.mp4 => word 2 Argument
+-add|a.mp4#١|-out|o.mp4 => word 2 Argument
+-cat|a.mp4|-out|o.mp4 => edit o.mp4 2 500; 1 cat a.mp4
+-cat|a.M4V|-out|o.mp4 => edit o.mp4 2 500; 1 cat a.M4V
+-cat|a.aac|-out|o.mp4 => word 2 Argument
+-cat|a.h264|-out|o.mp4 => word 2 Argument
+-cat|a.nhnt|-out|o.mp4 => word 2 Argument
+-cat||-out|o.mp4 => word 2 Argument
+-cat|a.mp4#1|-out|o.mp4 => word 2 Argument
+-cat|a#1.mp4|-out|o.mp4 => edit o.mp4 2 500; 1 cat a#1.mp4
+-cat|a.mp4:fps=25|-out|o.mp4 => word 2 Argument
+-cat|.mp4|-out|o.mp4 => edit o.mp4 2 500; 1 cat .mp4
+-cat|a|-out|o.mp4 => word 2 Argument
+-cat|-cat|-out|o.mp4 => word 2 Argument
+-cat|a.mp4 |-out|o.mp4 => word 2 Argument
+-cat|a:fps=.mp4|-out|o.mp4 => edit o.mp4 2 500; 1 cat a:fps=.mp4
+-rem|0|-out|o.mp4 => word 2 Argument
+-rem|1|-out|o.mp4 => edit o.mp4 2 500; 1 rem 1
+-rem|00|-out|o.mp4 => word 2 Argument
+-rem|01|-out|o.mp4 => edit o.mp4 2 500; 1 rem 1
+-rem|0000000000|-out|o.mp4 => word 2 Argument
+-rem|0000000001|-out|o.mp4 => edit o.mp4 2 500; 1 rem 1
+-rem|00000000001|-out|o.mp4 => word 2 Argument
+-rem|4294967295|-out|o.mp4 => edit o.mp4 2 500; 1 rem 4294967295
+-rem|4294967296|-out|o.mp4 => word 2 Argument
+-rem|04294967295|-out|o.mp4 => word 2 Argument
+-rem|9999999999|-out|o.mp4 => word 2 Argument
+-rem|10000000000|-out|o.mp4 => word 2 Argument
+-rem|18446744073709551616|-out|o.mp4 => word 2 Argument
+-rem||-out|o.mp4 => word 2 Argument
+-rem| |-out|o.mp4 => word 2 Argument
+-rem|1 |-out|o.mp4 => word 2 Argument
+-rem| 1|-out|o.mp4 => word 2 Argument
+-rem|+1|-out|o.mp4 => word 2 Argument
+-rem|-1|-out|o.mp4 => word 2 Argument
+-rem|-0|-out|o.mp4 => word 2 Argument
+-rem|1.0|-out|o.mp4 => word 2 Argument
+-rem|a|-out|o.mp4 => word 2 Argument
+-rem|/1|-out|o.mp4 => word 2 Argument
+-rem|١|-out|o.mp4 => word 2 Argument
+-mscale|600|-out|o.mp4 => edit o.mp4 2 500; 1 mscale 600
+-mscale|0|-out|o.mp4 => word 2 Argument
+-mscale|4294967296|-out|o.mp4 => word 2 Argument
+-enable|1|-out|o.mp4 => edit o.mp4 2 500; 1 enable 1
+-enable|0|-out|o.mp4 => word 2 Argument
+-enable|-1|-out|o.mp4 => word 2 Argument
+-disable|2|-out|o.mp4 => edit o.mp4 2 500; 1 disable 2
+-disable|0|-out|o.mp4 => word 2 Argument
+-disable|x|-out|o.mp4 => word 2 Argument
+-delay|1=0|-out|o.mp4 => edit o.mp4 2 500; 1 delay 1 0
+-delay|1=1|-out|o.mp4 => edit o.mp4 2 500; 1 delay 1 1
+-delay|1=-1|-out|o.mp4 => edit o.mp4 2 500; 1 delay 1 -1
+-delay|1=-0|-out|o.mp4 => edit o.mp4 2 500; 1 delay 1 0
+-delay|1=2147483647|-out|o.mp4 => edit o.mp4 2 500; 1 delay 1 2147483647
+-delay|1=-2147483647|-out|o.mp4 => edit o.mp4 2 500; 1 delay 1 -2147483647
+-delay|1=2147483648|-out|o.mp4 => word 2 Argument
+-delay|1=-2147483648|-out|o.mp4 => word 2 Argument
+-delay|1=02147483647|-out|o.mp4 => word 2 Argument
+-delay|1=-0000000001|-out|o.mp4 => edit o.mp4 2 500; 1 delay 1 -1
+-delay|1=00000000001|-out|o.mp4 => word 2 Argument
+-delay|1=--1|-out|o.mp4 => word 2 Argument
+-delay|1=|-out|o.mp4 => word 2 Argument
+-delay|1=-|-out|o.mp4 => word 2 Argument
+-delay|=1|-out|o.mp4 => word 2 Argument
+-delay||-out|o.mp4 => word 2 Argument
+-delay|1|-out|o.mp4 => word 2 Argument
+-delay|0=1|-out|o.mp4 => word 2 Argument
+-delay|01=1|-out|o.mp4 => edit o.mp4 2 500; 1 delay 1 1
+-delay|4294967295=1|-out|o.mp4 => edit o.mp4 2 500; 1 delay 4294967295 1
+-delay|4294967296=1|-out|o.mp4 => word 2 Argument
+-delay|1=1=1|-out|o.mp4 => word 2 Argument
+-delay|-1=1|-out|o.mp4 => word 2 Argument
+-delay|1=1ms|-out|o.mp4 => word 2 Argument
+-delay|1= 1|-out|o.mp4 => word 2 Argument
+-delay|1=1.5|-out|o.mp4 => word 2 Argument
+-delay|1=9999999999|-out|o.mp4 => word 2 Argument
+-delay|1:1|-out|o.mp4 => word 2 Argument
+-delay|1=- 1|-out|o.mp4 => word 2 Argument
+-split-chunk|0:0|-out|o.mp4 => edit o.mp4 2 500; 1 cut 0/1 0/1
+-split-chunk|0:1|-out|o.mp4 => edit o.mp4 2 500; 1 cut 0/1 1/1
+-split-chunk|1:0|-out|o.mp4 => edit o.mp4 2 500; 1 cut 1/1 0/1
+-split-chunk|1:1|-out|o.mp4 => edit o.mp4 2 500; 1 cut 1/1 1/1
+-split-chunk|0.5:1.0|-out|o.mp4 => edit o.mp4 2 500; 1 cut 5/10 10/10
+-split-chunk|0.001:1|-out|o.mp4 => edit o.mp4 2 500; 1 cut 1/1000 1/1
+-split-chunk|1.50:1.5|-out|o.mp4 => edit o.mp4 2 500; 1 cut 150/100 15/10
+-split-chunk|0.000000001:1|-out|o.mp4 => edit o.mp4 2 500; 1 cut 1/1000000000 1/1
+-split-chunk|0.0000000001:1|-out|o.mp4 => word 2 Argument
+-split-chunk|1.:2|-out|o.mp4 => word 2 Argument
+-split-chunk|.5:1|-out|o.mp4 => word 2 Argument
+-split-chunk|1:.5|-out|o.mp4 => word 2 Argument
+-split-chunk|1:2:3|-out|o.mp4 => word 2 Argument
+-split-chunk|:|-out|o.mp4 => word 2 Argument
+-split-chunk|1:|-out|o.mp4 => word 2 Argument
+-split-chunk|:1|-out|o.mp4 => word 2 Argument
+-split-chunk||-out|o.mp4 => word 2 Argument
+-split-chunk|1|-out|o.mp4 => word 2 Argument
+-split-chunk|1.5|-out|o.mp4 => word 2 Argument
+-split-chunk|0000000000.0:1|-out|o.mp4 => edit o.mp4 2 500; 1 cut 0/10 1/1
+-split-chunk|00000000000:1|-out|o.mp4 => word 2 Argument
+-split-chunk|4294967295:4294967295|-out|o.mp4 => edit o.mp4 2 500; 1 cut 4294967295/1 4294967295/1
+-split-chunk|4294967296:1|-out|o.mp4 => word 2 Argument
+-split-chunk|1:4294967296|-out|o.mp4 => word 2 Argument
+-split-chunk|0:4294967295.999999999|-out|o.mp4 => edit o.mp4 2 500; 1 cut 0/1 4294967295999999999/1000000000
+-split-chunk|-1:2|-out|o.mp4 => word 2 Argument
+-split-chunk|1:-2|-out|o.mp4 => word 2 Argument
+-split-chunk|1=2|-out|o.mp4 => word 2 Argument
+-split-chunk|1. 5:2|-out|o.mp4 => word 2 Argument
+-split-chunk| 1:2|-out|o.mp4 => word 2 Argument
+-split-chunk|1.123456789:2|-out|o.mp4 => edit o.mp4 2 500; 1 cut 1123456789/1000000000 2/1
+-split-chunk|1.1234567890:2|-out|o.mp4 => word 2 Argument
+-split-chunk|10.20:20.5|-out|o.mp4 => edit o.mp4 2 500; 1 cut 1020/100 205/10
+-split-chunk|0.0:0.0|-out|o.mp4 => edit o.mp4 2 500; 1 cut 0/10 0/10
+-split-chunk|1.+5:2|-out|o.mp4 => word 2 Argument
+-split-chunk|9999999999:1|-out|o.mp4 => word 2 Argument
+-tscale|1=1|-out|o.mp4 => edit o.mp4 2 500; 1 tscale 1 1
+-tscale|1=1000|-out|o.mp4 => edit o.mp4 2 500; 1 tscale 1 1000
+-tscale|1=0|-out|o.mp4 => word 2 Argument
+-tscale|0=1|-out|o.mp4 => word 2 Argument
+-tscale|1=4294967296|-out|o.mp4 => word 2 Argument
+-tscale|1=|-out|o.mp4 => word 2 Argument
+-tscale|=1|-out|o.mp4 => word 2 Argument
+-tscale||-out|o.mp4 => word 2 Argument
+-tscale|1|-out|o.mp4 => word 2 Argument
+-tscale|1=1=1|-out|o.mp4 => word 2 Argument
+-tscale|01=01|-out|o.mp4 => edit o.mp4 2 500; 1 tscale 1 1
+-tscale|1:1|-out|o.mp4 => word 2 Argument
+-tscale|1=-1|-out|o.mp4 => word 2 Argument
+-tscale|1=1.0|-out|o.mp4 => word 2 Argument
+-tscale|1=44100Hz|-out|o.mp4 => word 2 Argument
+-tscale|4294967295=4294967295|-out|o.mp4 => edit o.mp4 2 500; 1 tscale 4294967295 4294967295
+-tscale|1==|-out|o.mp4 => word 2 Argument
+-tscale|2=88200|-out|o.mp4 => edit o.mp4 2 500; 1 tscale 2 88200
+-lang|1=und|-out|o.mp4 => edit o.mp4 2 500; 1 lang 1 und
+-lang|1=deu|-out|o.mp4 => edit o.mp4 2 500; 1 lang 1 deu
+-lang|1=Deu|-out|o.mp4 => word 2 Argument
+-lang|1=de|-out|o.mp4 => word 2 Argument
+-lang|1=deut|-out|o.mp4 => word 2 Argument
+-lang|1=|-out|o.mp4 => word 2 Argument
+-lang|=deu|-out|o.mp4 => word 2 Argument
+-lang|1|-out|o.mp4 => word 2 Argument
+-lang||-out|o.mp4 => word 2 Argument
+-lang|0=deu|-out|o.mp4 => word 2 Argument
+-lang|1=d1u|-out|o.mp4 => word 2 Argument
+-lang|1= de|-out|o.mp4 => word 2 Argument
+-lang|1=deu=|-out|o.mp4 => word 2 Argument
+-lang|1=äb|-out|o.mp4 => word 2 Argument
+-lang|1=a{b|-out|o.mp4 => word 2 Argument
+-lang|1=`ab|-out|o.mp4 => word 2 Argument
+-lang|1=ab{|-out|o.mp4 => word 2 Argument
+-lang|4294967296=xyz|-out|o.mp4 => word 2 Argument
+-lang|01=abc|-out|o.mp4 => edit o.mp4 2 500; 1 lang 1 abc
+-lang|deu=1|-out|o.mp4 => word 2 Argument
+-inter|0|-out|o.mp4 => edit o.mp4 2 0
+-inter|00|-out|o.mp4 => edit o.mp4 2 0
+-inter|1|-out|o.mp4 => edit o.mp4 2 1
+-inter|4294967295|-out|o.mp4 => edit o.mp4 2 4294967295
+-inter|4294967296|-out|o.mp4 => word 2 Argument
+-inter|x|-out|o.mp4 => word 2 Argument
+-inter|-1|-out|o.mp4 => word 2 Argument
+-inter|0000000500|-out|o.mp4 => edit o.mp4 2 500
+-out|o.m4a => edit o.m4a 1 500
+-out|o.M4V => edit o.M4V 1 500
+-out|o.aac => word 2 Argument
+-out|o.nhnt => word 2 Argument
+-out|o.h264 => word 2 Argument
+-out| => word 2 Argument
+-out|o => word 2 Argument
+-out|.mp4 => edit .mp4 1 500
+-out|o.mp4#1 => word 2 Argument
+-out|o#1.mp4 => edit o#1.mp4 1 500
+-out|-out => word 2 Argument
+-out|-out.mp4 => edit -out.mp4 1 500
+-out|o.mp4:fps=1 => word 2 Argument
+-out|o p.mp4 => edit o p.mp4 1 500
+-out|o.media => word 2 Argument
+-out|o.info => word 2 Argument
+-out|o.Mp4  => word 2 Argument
+-gen|49 => word 2 Argument
+-gen|50 => gen 50
+-gen|51 => gen 51
+-gen|050 => gen 50
+-gen|0000000050 => gen 50
+-gen|00000000050 => word 2 Argument
+-gen|999999 => gen 999999
+-gen|1000000 => gen 1000000
+-gen|1000001 => word 2 Argument
+-gen|0 => word 2 Argument
+-gen| => word 2 Argument
+-gen|-50 => word 2 Argument
+-info|i.mp4 => info i.mp4
+-info|i.M4A => info i.M4A
+-info|i.aac => word 2 Argument
+-info|i.mp4#1 => word 2 Argument
+-timeline|i.mp4 => timeline i.mp4
+-timeline|i.M4A => timeline i.M4A
+-timeline|i.aac => word 2 Argument
+-timeline|i.mp4#1 => word 2 Argument
+-json|i.mp4 => json i.mp4
+-json|i.M4A => json i.M4A
+-json|i.aac => word 2 Argument
+-json|i.mp4#1 => word 2 Argument
+-ADD|a.aac => word 1 Unknown
+-add|a.aac|-add|a.aac => word 0 NoOut
+-rem|1|-add => word 3 Missing
+-cat => word 1 Missing
+cat|c.mp4 => word 1 Unknown
+-cat|c.mp4|-cat|c.mp4 => word 0 NoOut
+-add|-cat => word 2 Argument
+-rem => word 1 Missing
+-rem |1 => word 1 Unknown
+-rem|1|-rem|1 => word 0 NoOut
+-out|p.mp4|-rem => word 3 Missing
+-delay => word 1 Missing
+--delay|1=5 => word 1 Unknown
+-delay|1=5|-delay|1=5 => word 0 NoOut
+-rem|1|-delay => word 3 Missing
+-split-chunk => word 1 Missing
+-SPLIT-CHUNK|0:1 => word 1 Unknown
+-split-chunk|0:1|-split-chunk|0:1 => word 0 NoOut
+-add|-split-chunk => word 2 Argument
+-tscale => word 1 Missing
+tscale|1=1000 => word 1 Unknown
+-tscale|1=1000|-tscale|1=1000 => word 0 NoOut
+-out|p.mp4|-tscale => word 3 Missing
+-mscale => word 1 Missing
+-mscale |600 => word 1 Unknown
+-mscale|600|-mscale|600 => word 0 NoOut
+-rem|1|-mscale => word 3 Missing
+-lang => word 1 Missing
+--lang|1=deu => word 1 Unknown
+-lang|1=deu|-lang|1=deu => word 0 NoOut
+-add|-lang => word 2 Argument
+-enable => word 1 Missing
+-ENABLE|1 => word 1 Unknown
+-enable|1|-enable|1 => word 0 NoOut
+-out|p.mp4|-enable => word 3 Missing
+-disable => word 1 Missing
+disable|1 => word 1 Unknown
+-disable|1|-disable|1 => word 0 NoOut
+-rem|1|-disable => word 3 Missing
+-inter => word 1 Missing
+-inter |0 => word 1 Unknown
+-inter|0|-inter|0 => word 0 NoOut
+-add|-inter => word 2 Argument
+-out => word 1 Missing
+--out|o.mp4 => word 1 Unknown
+-out|o.mp4|-out|o.mp4 => word 3 OutTwice
+-out|p.mp4|-out => word 3 OutTwice
+-INFO|i.mp4 => word 1 Unknown
+-info|i.mp4|-info|i.mp4 => word 3 Mixed
+-rem|1|-info => word 3 Mixed
+-timeline => word 1 Missing
+timeline|i.mp4 => word 1 Unknown
+-timeline|i.mp4|-timeline|i.mp4 => word 3 Mixed
+-add|-timeline => word 2 Argument
+-json => word 1 Missing
+-json |i.mp4 => word 1 Unknown
+-json|i.mp4|-json|i.mp4 => word 3 Mixed
+-out|p.mp4|-json => word 3 Mixed
+-gen => word 1 Missing
+--gen|50 => word 1 Unknown
+-gen|50|-gen|50 => word 3 Mixed
+-add|a.aac|-cat|c.mp4 => word 0 NoOut
+-add|a.aac|-cat => word 3 Missing
+-add|a.aac|-out => word 3 Missing
+-add|a.aac|-json|i.mp4 => word 3 Mixed
+-add|a.aac|-json => word 3 Mixed
+-add|a.aac|-gen|50 => word 3 Mixed
+-add|a.aac|-gen => word 3 Mixed
+-out|o.mp4|-cat|c.mp4 => edit o.mp4 1 500; 2 cat c.mp4
+-out|o.mp4|-cat => word 3 Missing
+-out|o.mp4|-out => word 3 OutTwice
+-out|o.mp4|-json|i.mp4 => word 3 Mixed
+-out|o.mp4|-json => word 3 Mixed
+-out|o.mp4|-gen|50 => word 3 Mixed
+-out|o.mp4|-gen => word 3 Mixed
+-info|i.mp4|-cat|c.mp4 => word 3 Mixed
+-info|i.mp4|-cat => word 3 Mixed
+-info|i.mp4|-out|o.mp4 => word 3 Mixed
+-info|i.mp4|-out => word 3 Mixed
+-info|i.mp4|-json|i.mp4 => word 3 Mixed
+-info|i.mp4|-json => word 3 Mixed
+-info|i.mp4|-gen|50 => word 3 Mixed
+-info|i.mp4|-gen => word 3 Mixed
+-gen|50|-cat|c.mp4 => word 3 Mixed
+-gen|50|-cat => word 3 Mixed
+-gen|50|-out|o.mp4 => word 3 Mixed
+-gen|50|-out => word 3 Mixed
+-gen|50|-json|i.mp4 => word 3 Mixed
+-gen|50|-json => word 3 Mixed
+-gen|50|-gen => word 3 Mixed
+-inter|1|-inter|2|-out|o.mp4 => edit o.mp4 3 2
+-out|o.mp4|-inter|7 => edit o.mp4 1 7
+-inter|0|-out|o.mp4|-inter|500 => edit o.mp4 2 500
+-inter|1|-inter|x|-out|o.mp4 => word 4 Argument
+-add|o.mp4|-add|p.mp4|-out|o.mp4 => word 6 SameName
+-add|p.mp4|-add|o.mp4|-out|o.mp4 => word 6 SameName
+-add|p.mp4|-cat|o.mp4|-add|q.mp4|-out|o.mp4 => word 8 SameName
+-out|o.mp4|-add|p.mp4|-cat|o.mp4 => word 2 SameName
+-out|o.mp4|-rem|1|-add|o.mp4#2 => word 2 SameName
+-out|o.mp4|-add|O.mp4 => edit o.mp4 1 500; 2 add O.mp4 all -
+-out|o.mp4|-add|./o.mp4 => edit o.mp4 1 500; 2 add ./o.mp4 all -
+-out|o.mp4|-add|o.aac => edit o.mp4 1 500; 2 add o.aac all -
+-out|o.mp4|-add|o.nhnt => edit o.mp4 1 500; 2 add o.nhnt all -
+-add|a.aac|-out|o.mp4|-rem|1|-out|o.mp4 => word 7 OutTwice
+-add|a.aac|-rem|1|-out|o.mp4|-out => word 7 OutTwice
+-add|a.aac|-add|a.aac|-out|b.mp4 => edit b.mp4 3 500; 1 add a.aac all -; 2 add a.aac all -
+-rem|1|-rem|2|-rem|3 => word 0 NoOut
+-rem|1|-out|o.mp4|-gen|50 => word 5 Mixed
+-rem|1|-out|o.mp4|-info => word 5 Mixed
+-gen|50|50 => word 3 Unknown
+-gen|49|-out|o.mp4 => word 2 Argument
+-info|i.mp4|i.mp4 => word 3 Unknown
+-json|i.mp4|-out => word 3 Mixed
+-info|i.aac|x => word 2 Argument
+-add|a.aac|-bogus => word 3 Unknown
+-add|a.aac|bogus|-out => word 3 Unknown
+-add|a.txt|-bogus => word 2 Argument
+-bogus|-bogus => word 1 Unknown
+-out|o.txt|-out|o.txt => word 2 Argument
+-out|o.mp4|-add|o.mp4|-rem|0 => word 6 Argument
+-rem|0|-out|o.mp4|-add|o.mp4 => word 2 Argument
+-out|o.mp4|-lang|1=deu|-enable|2|-mscale|600 => edit o.mp4 1 500; 2 lang 1 deu; 3 enable 2; 4 mscale 600
+-disable|3|-tscale|1=90000|-rem|4|-out|o.mp4|-inter|250 => edit o.mp4 4 250; 1 disable 3; 2 tscale 1 90000; 3 rem 4
+-delay|2=-40|-cat|b.mp4|-add|a.mp4#video|-out|o.mp4 => edit o.mp4 4 500; 1 delay 2 -40; 2 cat b.mp4; 3 add a.mp4 video -
+-split-chunk|0.5:1.25|-rem|1|-out|o.mp4 => edit o.mp4 3 500; 1 cut 5/10 125/100; 2 rem 1
+-add|i.mp4|-split-chunk|10:20.5|-inter|500|-out|o.mp4 => edit o.mp4 4 500; 1 add i.mp4 all -; 2 cut 10/1 205/10
+-add|a.aac|-lang|1=deu|-disable|1|-out|b.mp4 => edit b.mp4 4 500; 1 add a.aac all -; 2 lang 1 deu; 3 disable 1
+-add|a b.aac|-out|o p.mp4 => edit o p.mp4 2 500; 1 add a b.aac all -
+-add|a=b:c.mp4|-out|o.mp4 => edit o.mp4 2 500; 1 add a=b:c.mp4 all -
+ => word 1 Unknown
+-rem|1| => word 3 Unknown
+| => word 1 Unknown
+";
