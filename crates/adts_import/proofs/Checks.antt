@@ -1,7 +1,7 @@
 -- A list of checks has no fault exactly where each test fails to hold.
 use Rattle.std.proofs.Common.{◌≡◌, Bool, true, false, List, [], ◌∷◌, Option, Some, None, option_map, if◌then◌else◌, refl}
 use Rattle.std.specs.List.{AllByRecursion}
-use Rattle.mp_ports.specs.Answer.{first_code, first_some}
+use Rattle.mp_ports.specs.Checks.{first_code, first_some}
 use Rattle.mp_ports.specs.declared.code.Code.{Code}
 
 abbrev pub AllPass : List (Bool × Code) → Type 0

@@ -1,6 +1,6 @@
 -- One step of cutting a stream into frames, and its end.
 use Rattle.std.proofs.Common.{◌≡◌, ◌+◌, ◌<◌, ◌-◌, ◌≤◌, ℕ, zero, suc, List, [], ◌∷◌, ◌++◌, length, take, drop, Some, None, Result, Ok, Err, refl, ap, sym, ◌∙◌, append_assoc, append-nil, length-append, length-drop, false, ◌==◌, ne_eqb, arith}
-use Rattle.mp_ports.specs.Answer.{◌>>=◌}
+use Rattle.mp_ports.specs.Checks.{◌>>=◌}
 use Rattle.mp_ports.specs.declared.fault.Bad.{Bad}
 use Rattle.mp_timeline.specs.Movie.{SampleRecord}
 use Rattle.adts_import.specs.Header.{frame_len, header_len}
@@ -41,7 +41,7 @@ behind-frame done frame (Ok frames) =
     let one = sample (length done) (payload frame) ∷ [] in
     rw (length-append done one, append_assoc done one) refl
 
-pub behind-next : (fuel : ℕ) (file : List ℕ) (done : List SampleRecord) (place : ℕ) (rest : List ℕ) → 0 < length rest → next_fault file (length done) place rest ≡ None
+behind-next : (fuel : ℕ) (file : List ℕ) (done : List SampleRecord) (place : ℕ) (rest : List ℕ) → 0 < length rest → next_fault file (length done) place rest ≡ None
     → behind done (frames_from (suc fuel) file (length done) place rest)
     ≡ behind (done ++ sample (length done) (payload (take (frame_len rest) rest)) ∷ []) (frames_from fuel file (length done + 1) (place + frame_len rest) (drop (frame_len rest) rest))
 behind-next fuel file done place rest some fault =

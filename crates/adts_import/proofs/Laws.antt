@@ -1,7 +1,7 @@
 -- A file is a stream of frames, or is refused: one of both, and each in one way.
 use Rattle.std.proofs.Common.{◌≡◌, ◌≢◌, ◌+◌, ◌-◌, ◌<◌, ◌≤◌, ◌==◌, ℕ, suc, false, List, [], ◌∷◌, ◌++◌, length, Some, Result, Ok, Err, refl, ap, sym, ◌∙◌, arith, append-nil, length-append, zero-add, inl, inr, ne_eqb}
 use Rattle.std.specs.List.{concat}
-use Rattle.mp_ports.specs.Answer.{◌>>=◌, bad_at}
+use Rattle.mp_ports.specs.Checks.{◌>>=◌, bad_at}
 use Rattle.mp_ports.specs.declared.code.Code.{Code}
 use Rattle.mp_ports.specs.declared.fault.Bad.{Bad}
 use Rattle.mp_ports.specs.declared.code.Code.TheVariants.{AdtsEmpty}
@@ -24,7 +24,7 @@ as_many file (frame ∷ frames) whole =
     omega (arith, fewer, length-append frame (concat frames), seven frame, whole.0.0.whole_header)
 
 -- the frames of a stream are read
-pub frames_read : (file : List ℕ) (frames : List (List ℕ)) → IsStream file frames → frames_of file ≡ Ok frames
+frames_read : (file : List ℕ) (frames : List (List ℕ)) → IsStream file frames → frames_of file ≡ Ok frames
 frames_read file frames stream =
     let more = length file - length frames in
     let count : length frames ≤ length (concat frames) = as_many file frames stream.whole in
@@ -39,7 +39,7 @@ frames_read file frames stream =
     ∙ ap Ok (append-nil frames)
 
 -- the fault behind whole frames is read
-pub fault_read : (file : List ℕ) (bad : Bad) → IsFaulty file bad → frames_of file ≡ Err bad
+fault_read : (file : List ℕ) (bad : Bad) → IsFaulty file bad → frames_of file ≡ Err bad
 fault_read file bad faulty =
     let frames = faulty.frames in
     let rest = faulty.rest in

@@ -2,7 +2,7 @@
 use Rattle.std.proofs.Common.{◌≡◌, ◌<◌, ◌≤◌, ◌==◌, ℕ, Bool, true, false, not, nat_lt, List, [], ◌∷◌, ◌++◌, length, take, Some, None, option_map, if◌then◌else◌, refl, ap, sym, ◌∙◌, arith, length-append, length-take, ltb-true, ltb-false, eqb-true, lt-ltb, le-ltb, ne_eqb, inl, inr, lit≤}
 use Rattle.std.proofs.lemmas.Bool.{eqb-false, cases_Bool}
 use Rattle.std.proofs.lemmas.Bool.Decides.{nat_tests}
-use Rattle.mp_ports.specs.Answer.{bad_at}
+use Rattle.mp_ports.specs.Checks.{bad_at}
 use Rattle.mp_ports.specs.declared.code.Code.TheVariants.{AdtsChange, SampleLimit}
 use Rattle.adts_import.specs.Header.{front_number, protection_absent, sync, layer, profile, frequency_index, channels, frame_len, header_len, more_blocks}
 use Rattle.adts_import.specs.Frame.{configuration, header_checks, header_fault, changes, is_cut, IsFrame}

@@ -1,11 +1,11 @@
 -- The samples of a file are one plain track.
 use Rattle.std.proofs.Common.{◌≡◌, ◌≢◌, ◌+◌, ◌<◌, ◌^◌, ℕ, suc, List, [], ◌∷◌, length, Result, Ok, Err, refl, ap, sym, subst, ◌∙◌, arith, lit<}
 use Rattle.std.specs.List.{concat, AllByRecursion}
-use Rattle.mp_ports.specs.Answer.{◌>>=◌}
+use Rattle.mp_ports.specs.Checks.{◌>>=◌}
 use Rattle.mp_ports.specs.declared.fault.Bad.{Bad}
 use Rattle.mp_boxes.specs.Boxes.{IsBytes}
 use Rattle.mp_timeline.specs.Movie.{SampleRecord}
-use Rattle.mp_timeline.specs.Single.{ArePlain}
+use Rattle.mp_movie.specs.Single.{ArePlain}
 use Rattle.adts_import.specs.Header.{front_number, frame_len}
 use Rattle.adts_import.specs.Frame.{IsFrame}
 use Rattle.adts_import.specs.Sound.{samples_from}

@@ -1,54 +1,20 @@
 -- The movie of frames is a movie of one plain track.
-use Rattle.std.proofs.Common.{◌≡◌, ◌≢◌, ◌+◌, ◌*◌, ◌^◌, ◌<◌, ◌≤◌, ℕ, nat_lt, nat_le, ◌&&◌, List, [], ◌∷◌, length, get_or, length-drop, codes, ap, subst, refl, arith, lit<, lit≤}
+use Rattle.std.proofs.Common.{◌≡◌, ◌≢◌, ◌+◌, ◌*◌, ◌^◌, ◌<◌, ◌≤◌, ℕ, nat_lt, nat_le, ◌&&◌, List, [], ◌∷◌, length, length-drop, codes, subst, refl, arith, lit<, lit≤}
 use Rattle.std.specs.List.{AllByRecursion}
 use Rattle.std.proofs.lemmas.List.Sums.{AllPass-from_list_all}
 use Rattle.std.proofs.lemmas.Bool.Decides.{nat_tests}
 use Rattle.mp_boxes.specs.Boxes.{IsBytes}
 use Rattle.mp_entries.specs.Entry.{IsEntry}
 use Rattle.mp_timeline.specs.Movie.{SampleRecord}
-use Rattle.mp_timeline.specs.Plain.{unit_matrix, plain_movie_head, plain_track_head}
-use Rattle.mp_timeline.specs.Single.{IsMovieHead, IsTrackHead, IsSingle, ArePlain}
+use Rattle.mp_timeline.specs.Plain.{plain_movie_head, plain_track_head}
+use Rattle.mp_movie.specs.Single.{IsMovieHead, IsTrackHead, IsSingle, ArePlain}
 use Rattle.adts_import.specs.declared.header.Configuration.{Configuration}
 use Rattle.adts_import.specs.Header.{header_len, frequencies}
 use Rattle.adts_import.specs.Entry.{frequency, entry_bytes}
 use Rattle.adts_import.specs.Frame.{IsConfiguration, payload}
 use Rattle.adts_import.specs.Sound.{samples_from, sound_track, sound_movie}
 use Rattle.adts_import.specs.Stream.{most_frames}
-use Rattle.adts_import.proofs.Bytes.{IsBytes-tested, IsBytes-drop}
-
-pub movie_head_fits : IsMovieHead plain_movie_head
-movie_head_fits = record {
-  created = lit< tt;
-  modified = lit< tt;
-  rate = lit< tt;
-  volume = lit< tt;
-  matrix_len = refl;
-  matrix = IsBytes-tested unit_matrix refl;
-  udta = refl;
-}
-
-pub track_head_fits : IsTrackHead (plain_track_head (codes "soun"))
-track_head_fits = record {
-  flags = lit< tt;
-  created = lit< tt;
-  modified = lit< tt;
-  layer = lit< tt;
-  group = lit< tt;
-  volume = lit< tt;
-  matrix_len = refl;
-  matrix = IsBytes-tested unit_matrix refl;
-  width = lit< tt;
-  height = lit< tt;
-  media_created = lit< tt;
-  media_modified = lit< tt;
-  language = lit< tt;
-  handler_len = refl;
-  handler = IsBytes-tested (codes "soun") refl;
-  not_hint = λ e. let first : 115 ≡ 104 = ap (λ (b : List ℕ). get_or b 0 0) e in omega arith;
-  name_len = lit< tt;
-  name = IsBytes-tested (0 ∷ []) refl;
-  udta = refl;
-}
+use Rattle.adts_import.proofs.Bytes.{IsBytes-drop}
 
 -- frames that fit a sample
 pub record IsShort (frame : List ℕ) : Type 0 where
@@ -72,7 +38,7 @@ plain_samples k (frame ∷ frames) short =
       subst (λ (decode : ℕ). ArePlain decode (samples_from (k + 1) frames)) next (plain_samples (k + 1) frames short.1),
     )
 
-pub frequency_fits : (c : Configuration) → IsConfiguration c → (1 ≤ frequency c) × (frequency c < 2 ^ 32)
+frequency_fits : (c : Configuration) → IsConfiguration c → (1 ≤ frequency c) × (frequency c < 2 ^ 32)
 frequency_fits c fits =
     let inside : c.frequency_index < 13 = omega (arith, fits.frequency_index) in
     let tested = AllPass-from_list_all (λ f. nat_le 1 f && nat_lt f 4294967296) frequencies refl c.frequency_index 0 inside in
@@ -84,20 +50,21 @@ pub record IsSamples (samples : List SampleRecord) : Type 0 where
   pub few : length samples ≤ most_frames
   pub plain : ArePlain 0 samples
 
--- where its entry is one, too
-pub sound_single : (c : Configuration) (samples : List SampleRecord) → IsConfiguration c → IsEntry (entry_bytes c) → IsBytes (entry_bytes c) → length (entry_bytes c) < 2 ^ 24 → IsSamples samples
+-- where its heads are in their ranges and its entry is one, too
+pub sound_single : IsMovieHead plain_movie_head → IsTrackHead (plain_track_head (codes "soun")) → (c : Configuration) (samples : List SampleRecord)
+    → IsConfiguration c → IsEntry (entry_bytes c) → IsBytes (entry_bytes c) → length (entry_bytes c) < 2 ^ 24 → IsSamples samples
     → IsSingle (sound_movie c samples)
 unfolding sound_movie
-sound_single c samples fits entry bytes short plain = record {
+sound_single movie_head track_head c samples fits entry bytes short plain = record {
   scale = lit≤ tt;
   scale_fits = lit< tt;
-  head = movie_head_fits;
+  head = movie_head;
   track = sound_track c samples;
   one_track = refl;
   plain = record {
     number = lit≤ tt;
     number_fits = lit< tt;
-    head = track_head_fits;
+    head = track_head;
     scale = (frequency_fits c fits).0;
     scale_fits = (frequency_fits c fits).1;
     entry = entry_bytes c;

@@ -4,7 +4,7 @@ use Rattle.std.proofs.Math.Nat.{suc-add}
 use Rattle.std.proofs.Math.Seq.{take-append_seam, drop-append_seam}
 use Rattle.std.proofs.lemmas.List.{take-append-drop}
 use Rattle.std.specs.List.{concat}
-use Rattle.mp_ports.specs.Answer.{◌>>=◌}
+use Rattle.mp_ports.specs.Checks.{◌>>=◌}
 use Rattle.mp_ports.specs.declared.fault.Bad.{Bad}
 use Rattle.adts_import.specs.Header.{frame_len}
 use Rattle.adts_import.specs.Frame.{configuration, IsFrame}

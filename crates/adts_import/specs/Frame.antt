@@ -1,6 +1,6 @@
 -- One frame of an ADTS stream, and what can be wrong with it (ISO/IEC 14496-3, 1.A.2.2 and 1.A.3).
 use Rattle.std.specs.Prelude.{ℕ, ◌<◌, ◌≤◌, ◌^◌, ◌≡◌, ◌==◌, ◌&&◌, ◌||◌, not, nat_lt, List, [], ◌∷◌, length, drop, Option, Bool}
-use Rattle.mp_ports.specs.Answer.{first_code}
+use Rattle.mp_ports.specs.Checks.{first_code}
 use Rattle.mp_ports.specs.declared.code.Code.{Code}
 use Rattle.mp_ports.specs.declared.code.Code.TheVariants.{AdtsSync, AdtsCut, AdtsLayer, AdtsBlocks, AdtsRate, AdtsChannels}
 use Rattle.adts_import.specs.declared.header.Configuration.{Configuration}

@@ -1,17 +1,18 @@
 -- A stream of ADTS frames, and the first fault of a file (ISO/IEC 14496-3, 1.A.2.2 and 1.A.3).
-use Rattle.std.specs.Prelude.{◌≡◌, ◌≢◌, ◌⊎◌, ℕ, ◌+◌, ◌≤◌, ◌==◌, nat_lt, List, [], ◌∷◌, ◌++◌, zero, suc, length, take, drop, Option, Some, None, option_map, Result, Ok, Err, if◌then◌else◌}
+use Rattle.std.specs.Prelude.{◌≡◌, ◌≢◌, ◌⊎◌, ◌↔◌, ℕ, ◌+◌, ◌≤◌, ◌==◌, nat_lt, List, [], ◌∷◌, ◌++◌, zero, suc, length, take, drop, Option, Some, None, option_map, Result, Ok, Err, if◌then◌else◌}
 use Rattle.std.specs.List.{concat, AllByRecursion}
-use Rattle.mp_ports.specs.Answer.{bad_at, first_some, unless, ◌>>=◌}
+use Rattle.mp_ports.specs.Checks.{bad_at, first_some, unless, ◌>>=◌}
 use Rattle.mp_ports.specs.declared.code.Code.TheVariants.{AdtsEmpty, AdtsChange, SampleLimit}
 use Rattle.mp_ports.specs.declared.fault.Bad.{Bad}
+use Rattle.mp_columns.specs.declared.columns.TheConstants.{MOST_ITEMS}
 use Rattle.mp_timeline.specs.Movie.{SampleRecord, MovieRecord}
 use Rattle.adts_import.specs.Header.{frame_len}
 use Rattle.adts_import.specs.Frame.{configuration, header_fault, changes, IsFrame}
 use Rattle.adts_import.specs.Sound.{samples_from, sound_movie, movie_of}
 
--- the most frames that are read
+-- the most frames that are read: the most samples that a movie keeps
 abbrev pub most_frames : ℕ
-most_frames = 8388608
+most_frames = MOST_ITEMS
 
 -- whole frames, of the configuration that the file begins with
 abbrev pub AreFrames : List ℕ → List (List ℕ) → Type 0
@@ -76,3 +77,13 @@ stream_movie file =
     if length file == 0 then Err (bad_at AdtsEmpty 0) else (do
       samples ← samples_of file
       Ok (sound_movie (configuration file) samples))
+
+-- each file is a stream and has its movie, or is refused with its first fault: always one of both and never both, each in one way
+pub record EachFileIsAStreamOrRefused : Type 0 where
+  -- what is read is the movie of the stream, or the fault
+  pub movie : (file : List ℕ) (movie : MovieRecord) → (stream_movie file ≡ Ok movie) ↔ Denotes file movie
+  pub fault : (file : List ℕ) (bad : Bad) → (stream_movie file ≡ Err bad) ↔ IsRefused file bad
+  pub never_neither : (file : List ℕ) → ((movie : MovieRecord) × Denotes file movie) ⊎ ((bad : Bad) × IsRefused file bad)
+  pub never_both : (file : List ℕ) (movie : MovieRecord) (bad : Bad) → Denotes file movie → IsRefused file bad → ⊥
+  pub one_cutting : (file : List ℕ) (frames others : List (List ℕ)) → IsStream file frames → IsStream file others → frames ≡ others
+  pub one_fault : (file : List ℕ) (bad other : Bad) → IsRefused file bad → IsRefused file other → bad ≡ other

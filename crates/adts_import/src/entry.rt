@@ -22,13 +22,14 @@ const AAC: u8 = 0x40;
 
 impl Configuration {
     /// Samples a second.
-    pub fn frequency(self) -> u32
+    pub(crate) fn frequency(self) -> u32
         requires { IsConfiguration self }
         ensures { result ≡ frequency self }
     {
         FREQUENCIES[self.frequency_index as usize]
     }
 
+    /// How many loudspeakers the channels are for.
     fn loudspeakers(self) -> u16
         ensures { result ≡ loudspeakers self }
     {

@@ -1,7 +1,7 @@
 //! The header of an ADTS frame.
 
-ghost use Rattle.std.specs.Prelude.{◌≡◌, ◌+◌, ◌≤◌, ◌<◌, ◌^◌, ℕ, List, length, IfOk, Some, None};
-ghost use Rattle.mp_ports.specs.Answer.{Checks};
+ghost use Rattle.std.specs.Prelude.{◌≡◌, ◌+◌, ◌≤◌, ◌<◌, ◌^◌, ℕ, List, length, IfOk};
+ghost use Rattle.mp_ports.specs.Checks.{Checks};
 ghost use Rattle.adts_import.specs.Header.{front_number, bits};
 ghost use Rattle.adts_import.specs.Frame.{header_fault, header_of, IsHeader};
 
@@ -14,10 +14,10 @@ const LAST_FREQUENCY_INDEX: u8 = 12;
 /// What is one for a whole stream: the profile (object type less 1), the index of its frequency and
 /// its channel configuration (ISO/IEC 14496-3, 1.A.3.2.1).
 #[derive(Clone, Copy, Debug, PartialEq, Eq)]
-pub struct Configuration {
-    pub profile: u8,
-    pub frequency_index: u8,
-    pub channels: u8,
+pub(crate) struct Configuration {
+    pub(crate) profile: u8,
+    pub(crate) frequency_index: u8,
+    pub(crate) channels: u8,
 }
 
 /// The fields of a frame's header that the import needs; lengths in bytes.

@@ -1,11 +1,12 @@
 //! The import of a stream.
 
-ghost use Rattle.std.specs.Prelude.{◌≡◌, ◌≢◌, ◌-◌, ◌<◌, ◌≤◌, List, length, IfOk, IfErr, IfSome, drop};
+ghost use Rattle.std.specs.Prelude.{◌≡◌, ◌≢◌, ◌-◌, ◌<◌, ◌≤◌, length, IfOk, IfErr, IfSome, drop};
 ghost use Rattle.mp_ports.specs.declared.fault.Bad.{Bad};
-ghost use Rattle.mp_ports.specs.Answer.{Checks, Gives, GivesRead};
+ghost use Rattle.mp_ports.specs.Checks.{Checks};
+ghost use Rattle.mp_ports.specs.Gives.{Gives, refusal, read_refusal};
 ghost use Rattle.mp_ports.specs.Folder.{opened_at};
 ghost use Rattle.mp_ports.specs.Reading.{OnlyReads};
-ghost use Rattle.mp_timeline.specs.Single.{IsSingle};
+ghost use Rattle.mp_movie.specs.Single.{IsSingle};
 ghost use Rattle.adts_import.specs.Frame.{IsConfiguration, IsHeader, configuration as configuration_of, header_of};
 ghost use Rattle.adts_import.specs.Entry.{entry_bytes};
 ghost use Rattle.adts_import.specs.Sound.{sample, sound_movie};
@@ -13,6 +14,8 @@ ghost use Rattle.adts_import.specs.Stream.{most_frames, next_fault, samples_of, 
 
 use crate::entry::sound_entry;
 use crate::header::{Configuration, Header, read_header};
+use mp_columns::MOST_ITEMS;
+use mp_movie::plain_heads_fit;
 use mp_ports::{Bad, Code, Fail, Folder, ReadFail};
 use mp_timeline::{EntryBytes, MovieHead, PlainMovie, PlainSample, PlainTrack, TrackHead};
 use std::alloc::{AllocError, Global};
@@ -21,8 +24,6 @@ use std::alloc::{AllocError, Global};
 const MOVIE_SCALE: u32 = 1000;
 /// Samples of sound in a frame of one block (ISO/IEC 14496-3, 4.5.1.1).
 const FRAME_DURATION: u32 = 1024;
-/// The most samples that a movie keeps.
-const MOST_FRAMES: usize = 8_388_608;
 
 /// Reads an opened file as a stream of ADTS frames: a movie of one track of sound, one sample a frame.
 ///
@@ -36,7 +37,8 @@ pub fn import_adts<F: Folder>(
 ) -> Result<PlainMovie, ReadFail>
     requires { file < length (F.state folder.old).opened }
     // Where the folder tells the file's bytes, the answer is their movie, or their fault.
-    ensures movie { IfSome (opened_at (F.state folder.old) file).bytes (λ bytes. GivesRead (λ movie. movie) result (stream_movie bytes)) }
+    ensures movie { IfSome (opened_at (F.state folder.old) file).bytes
+        (λ bytes. Gives read_refusal (λ movie. movie) result (stream_movie bytes)) }
     ensures single { IfOk result (λ movie. IsSingle movie) }
     ensures folder { OnlyReads result (F.state folder.old) (F.state folder.new) }
 {
@@ -45,10 +47,11 @@ pub fn import_adts<F: Folder>(
     Ok(movie)
 }
 
-// All bytes of an opened file.
+/// All bytes of an opened file.
 fn read_whole<F: Folder>(alloc: Global, folder: &mut F, file: u32) -> Result<Vec<u8>, ReadFail>
     requires { file < length (F.state folder.old).opened }
-    ensures bytes { IfOk result (λ v. IfSome (opened_at (F.state folder.old) file).bytes (λ bytes. v.items ≡ bytes)) }
+    ensures bytes { IfOk result
+        (λ v. IfSome (opened_at (F.state folder.old) file).bytes (λ bytes. v.items ≡ bytes)) }
     ensures no_refusal { IfErr result (λ fail. (bad : Bad) → fail ≢ ReadFail.Bad bad) }
     ensures folder { OnlyReads result (F.state folder.old) (F.state folder.new) }
 {
@@ -65,7 +68,7 @@ fn read_whole<F: Folder>(alloc: Global, folder: &mut F, file: u32) -> Result<Vec
 /// The movie of the bytes of a stream.
 #[tactic(auto, unfolding(crate::specs::Stream::stream_movie))]
 fn read_stream(alloc: Global, bytes: &[u8]) -> Result<PlainMovie, Fail>
-    ensures movie { Gives (λ movie. movie) result (stream_movie bytes.now) }
+    ensures movie { Gives refusal (λ movie. movie) result (stream_movie bytes.now) }
     ensures single { IfOk result (λ movie. IsSingle movie) }
 {
     if bytes.is_empty() {
@@ -75,6 +78,7 @@ fn read_stream(alloc: Global, bytes: &[u8]) -> Result<PlainMovie, Fail>
         Ok(first) => first.configuration,
         Err(code) => return Err(Fail::Bad(Bad::at(code, 0))),
     };
+    plain_heads_fit();
     let samples = read_frames(alloc, bytes, configuration)?;
     let entry = sound_entry(alloc, configuration)?;
     let movie = make_movie(alloc, configuration, entry, samples)?;
@@ -88,7 +92,7 @@ fn read_frames(
     configuration: Configuration,
 ) -> Result<Vec<PlainSample>, Fail>
     requires { configuration ≡ configuration_of bytes.now }
-    ensures { Gives (λ samples. samples.items) result (samples_of bytes.now) }
+    ensures { Gives refusal (λ samples. samples.items) result (samples_of bytes.now) }
 {
     let mut samples = Vec::new(alloc);
     let mut at = 0;
@@ -125,7 +129,7 @@ fn next_frame(
     if head.configuration != configuration {
         return Err(Bad::at(Code::AdtsChange, at as u64));
     }
-    if number >= MOST_FRAMES {
+    if number >= MOST_ITEMS as usize {
         return Err(Bad::at(Code::SampleLimit, 0));
     }
     Ok(head)

@@ -1,11 +1,12 @@
 -- What a job comes to, given the files that are held.
-use Rattle.std.specs.Prelude.{ℕ, List, length, nat_lt, Option, Some, None, Result, Ok, Err, if◌then◌else◌}
+use Rattle.std.specs.Prelude.{ℕ, List, [], ◌∷◌, ◌==◌, length, nat_lt, Option, Some, None, Result, Ok, Err, if◌then◌else◌}
 use Rattle.mp_ports.specs.declared.fault.Bad.{Bad}
-use Rattle.mp_ports.specs.declared.code.Code.TheVariants.{InputLimit}
-use Rattle.mp_ports.specs.Answer.{bad_at}
+use Rattle.mp_ports.specs.declared.code.Code.TheVariants.{EmptyMovie, InputLimit}
+use Rattle.mp_ports.specs.Checks.{bad_at, fault_at, first_code, first_some, unless}
 use Rattle.mp_ports.specs.Folder.{HeldFile, bytes_under}
 use Rattle.mp_timeline.specs.Movie.{MovieRecord}
 use Rattle.adts_import.specs.Stream.{stream_movie}
+use Rattle.mp_layout.specs.File.{moov_fault}
 use Rattle.mp4edit.specs.Words.{JobRecord}
 
 -- a movie to be written, a refusal, or an option whose file is missing
@@ -28,10 +29,19 @@ abbrev pub input_outcome : ℕ → Option (List ℕ) → Outcome
 input_outcome command None = Absent command
 input_outcome command (Some bytes) = outcome_of command (input_movie bytes)
 
--- what the job comes to. A movie of a stream has a track, and its `moov` is far shorter than 268,435,456 bytes:
--- a movie is refused for neither
-abbrev pub outcome : JobRecord → List HeldFile → Outcome
-outcome job files = input_outcome job.command (bytes_under job.input files)
+-- why a movie can't be written: it has no track, or its `moov` would be too long
+abbrev pub output_fault : ℕ → MovieRecord → Option Bad
+output_fault window movie = first_some (fault_at 0 (first_code ((length movie.tracks == 0, EmptyMovie) ∷ [])) ∷ moov_fault movie window ∷ [])
+
+-- a movie that can't be written is refused under the number of the option that writes it
+abbrev pub output_outcome : ℕ → ℕ → Outcome → Outcome
+output_outcome command window (Movie movie) = outcome_of command (unless (output_fault window movie) movie)
+output_outcome command window (Refusal bad) = Refusal bad
+output_outcome command window (Absent input) = Absent input
+
+-- what the job comes to
+unfoldable pub outcome : JobRecord → List HeldFile → Outcome
+outcome job files = output_outcome job.out_command job.window (input_outcome job.command (bytes_under job.input files))
 
 -- it is a movie, of which this holds
 abbrev pub IsMovieAnd : Outcome → (MovieRecord → Type 0) → Type 0

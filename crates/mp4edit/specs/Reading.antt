@@ -3,11 +3,12 @@ use Rattle.std.specs.Prelude.{◌≡◌, ℕ, List, Result, Ok, Err}
 use Rattle.mp_ports.specs.Count.{after_fault}
 use Rattle.mp_ports.specs.Folder.{FolderState}
 use Rattle.mp_timeline.specs.Movie.{MovieRecord}
-use Rattle.mp4edit.specs.declared.words.WordFail.{WordFail}
-use Rattle.mp4edit.specs.declared.words.WordFail.TheVariants.{Words, NoMemory}
+use Rattle.mp_words.specs.declared.fault.WordFail.{WordFail}
+use Rattle.mp_words.specs.declared.fault.WordFail.TheVariants.{Words, NoMemory}
+use Rattle.mp_words.specs.Line.{WordFault}
 use Rattle.mp4edit.specs.declared.input.InputFail.{InputFail}
 use Rattle.mp4edit.specs.declared.input.InputFail.TheVariants.{Missing, Bad, ReadFault, NoMemory as NoRoom}
-use Rattle.mp4edit.specs.Words.{JobRecord, WordFault}
+use Rattle.mp4edit.specs.Words.{JobRecord}
 use Rattle.mp4edit.specs.Outcome.{Outcome, Movie, Refusal, Absent}
 use Rattle.mp4edit.specs.Run.{AreInputs}
 

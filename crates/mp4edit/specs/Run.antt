@@ -4,11 +4,12 @@ use Rattle.mp_ports.specs.Count.{Rose}
 use Rattle.mp_ports.specs.Folder.{FolderState, HeldFile, OpenedFile, bytes_under}
 use Rattle.mp_ports.specs.Report.{ReportState, Says, FailsToSay}
 use Rattle.mp_timeline.specs.Movie.{MovieRecord}
-use Rattle.mp_timeline.specs.Present.{present, Presents}
+use Rattle.mp_movie.specs.Present.{present, Presents}
 use Rattle.mp_layout.specs.File.{file_bytes}
 use Rattle.mp4edit.specs.declared.ending.Ending.{Ending}
 use Rattle.mp4edit.specs.declared.ending.Ending.TheVariants.{Done, Words, Refused, NoFile, ReadFault, WriteFault, ReportFault, NoMemory}
-use Rattle.mp4edit.specs.Words.{JobRecord, WordFault}
+use Rattle.mp_words.specs.Line.{WordFault}
+use Rattle.mp4edit.specs.Words.{JobRecord}
 use Rattle.mp4edit.specs.Outcome.{Outcome, Movie, Refusal, Absent, IsMovieAnd}
 use Rattle.mp4edit.specs.Line.{line}
 use Rattle.mp4edit.specs.Written.{IsFront}

@@ -1,7 +1,10 @@
 -- The status of an ending.
-use Rattle.std.specs.Prelude.{ℕ}
+use Rattle.std.specs.Prelude.{◌≡◌, ℕ, Result}
 use Rattle.mp4edit.specs.declared.ending.Ending.{Ending}
 use Rattle.mp4edit.specs.declared.ending.Ending.TheVariants.{Done, Words, Refused, NoFile, ReadFault, WriteFault, ReportFault, NoMemory}
+use Rattle.mp_words.specs.Line.{WordFault}
+use Rattle.mp4edit.specs.Words.{JobRecord}
+use Rattle.mp4edit.specs.Run.{AnswersWords}
 
 -- what the program ends with
 abbrev pub status : Ending → ℕ
@@ -13,3 +16,9 @@ status ReadFault = 4
 status WriteFault = 5
 status ReportFault = 6
 status NoMemory = 7
+
+-- the status of an ending that the line may have
+pub record IsStatusOf (number : ℕ) (job : Result JobRecord WordFault) : Type 0 where
+  pub ending : Ending
+  pub answers : AnswersWords ending job
+  pub status_is : number ≡ status ending

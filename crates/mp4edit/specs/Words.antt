@@ -1,8 +1,13 @@
--- The words of a line, and the job that they name.
-use Rattle.std.specs.Prelude.{ℕ, ◌-◌, Bool, List, [], ◌∷◌, length, drop, codes, Result, Ok, Err, if◌then◌else◌, ◌&&◌, ◌||◌, bytes_eq}
-use Rattle.std.specs.Str.{str_eq_ignore_ascii_case}
-use Rattle.mp4edit.specs.declared.words.WordKind.{WordKind}
-use Rattle.mp4edit.specs.declared.words.WordKind.TheVariants.{NotYet}
+-- The job of a line, as far as jobs are built.
+use Rattle.std.specs.Prelude.{ℕ, ◌+◌, ◌-◌, ◌*◌, Bool, true, false, List, [], ◌∷◌, codes, Option, Some, None, Result, Ok, Err, if◌then◌else◌, ◌&&◌, not, bytes_eq}
+use Rattle.std.specs.Bool.{then_some}
+use Rattle.mp_ports.specs.Checks.{◌>>=◌}
+use Rattle.mp_words.specs.declared.fault.WordKind.TheVariants.{NotYet}
+use Rattle.mp_words.specs.declared.name.FileKind.{FileKind}
+use Rattle.mp_words.specs.declared.name.FileKind.TheVariants.{Adts}
+use Rattle.mp_words.specs.Jobs.{Asked, Adds, CommandRecord, EditRecord, JobRecord as LineJob, Edits}
+use Rattle.mp_words.specs.Line.{WordFault, job as line_job}
+use Rattle.mp_words.specs.Names.{kind_of}
 
 -- a job: the option `command` imports the file `input`, the option `out_command` writes the file `out`,
 -- with chunks of so many milliseconds (0: of any length)
@@ -13,26 +18,47 @@ pub record JobRecord : Type 0 where
   pub out_command : ℕ
   pub window : ℕ
 
--- the name ends so, in either ASCII case
-abbrev pub ends_with : List ℕ → List ℕ → Bool
-ends_with name suffix = str_eq_ignore_ascii_case (drop (length name - length suffix) name) suffix
+abbrev pub is_adts : Option FileKind → Bool
+is_adts (Some Adts) = true
+is_adts _ = false
 
--- the name of a stream of ADTS frames
-abbrev pub is_adts_name : List ℕ → Bool
-is_adts_name name = ends_with name (codes ".aac") || ends_with name (codes ".adts")
+-- whether an input is added behind the option, if the option is built: `-out`, and one `-add` of an ADTS file
+abbrev pub added_behind : Bool → List ℕ → List ℕ → Option Bool
+added_behind added option argument =
+    if bytes_eq option (codes "-out") then Some added
+    else then_some (bytes_eq option (codes "-add") && is_adts (kind_of argument) && not added) true
 
--- the name of an MP4 file
-abbrev pub is_mp4_name : List ℕ → Bool
-is_mp4_name name = ends_with name (codes ".mp4") || ends_with name (codes ".m4a") || ends_with name (codes ".m4v")
+-- the option of that number, or the first one behind it
+abbrev pub unless_built : ℕ → Option Bool → (Bool → Option ℕ) → Option ℕ
+unless_built place None behind = Some place
+unless_built place (Some added) behind = behind added
 
--- the word that is at fault, counted from 1, or 0 for the line; and why
-abbrev pub WordFault : Type 0
-WordFault = ℕ × WordKind
+-- the number of the first option, from that number on, that asks for what isn't built
+abbrev pub first_unbuilt : List (List ℕ) → ℕ → Bool → Option ℕ
+first_unbuilt (option ∷ argument ∷ words) place added = unless_built place (added_behind added option argument) (first_unbuilt words (place + 1))
+first_unbuilt _ place added = None
 
--- `-add INPUT -out OUT`, with an ADTS name and an MP4 name; any other line isn't built yet
+-- the option of that number asks for what isn't built
+abbrev pub not_yet : ℕ → Result JobRecord WordFault
+not_yet place = Err (2 * place - 1, NotYet)
+
+abbrev pub imported : Asked → ℕ → EditRecord → Result JobRecord WordFault
+imported (Adds name choice rate) place edit = Ok (record { input = name; command = place; out = edit.out; out_command = edit.out_command; window = 0 })
+imported _ place edit = not_yet 1
+
+abbrev pub only_command : List CommandRecord → EditRecord → Result JobRecord WordFault
+only_command (command ∷ []) edit = imported command.what command.place edit
+only_command _ edit = not_yet 1
+
+-- an edit with one input; the first option of any other job isn't built
+abbrev pub with_input : LineJob → Result JobRecord WordFault
+with_input (Edits edit) = only_command edit.commands edit
+with_input _ = not_yet 1
+
+abbrev pub built : Option ℕ → LineJob → Result JobRecord WordFault
+built (Some place) job = not_yet place
+built None job = with_input job
+
+-- the job that the words of a line name, if all that it asks for is built
 abbrev pub job : List (List ℕ) → Result JobRecord WordFault
-job (add ∷ input ∷ out ∷ name ∷ []) =
-    if bytes_eq add (codes "-add") && is_adts_name input && bytes_eq out (codes "-out") && is_mp4_name name
-    then Ok (record { input = input; command = 1; out = name; out_command = 2; window = 0 })
-    else Err (0, NotYet)
-job _ = Err (0, NotYet)
+job words = line_job words >>= built (first_unbuilt words 1 false)

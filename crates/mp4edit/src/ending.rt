@@ -2,8 +2,8 @@
 ghost use Rattle.std.specs.Prelude.{◌≡◌};
 ghost use Rattle.mp4edit.specs.Status.{status};
 
-use crate::words::WordKind;
 use mp_ports::Bad;
+use mp_words::WordKind;
 
 /// How a run ends, and what it says of it by its status.
 #[derive(Clone, Copy, Debug, PartialEq, Eq)]

@@ -1,7 +1,7 @@
 // The line that is said of a file that was written.
 ghost use Rattle.std.specs.Prelude.{◌≡◌, ◌++◌, decimal, IfOk, OnOk};
 ghost use Rattle.mp4edit.specs.Line.{wrote, sample_count};
-ghost use Rattle.mp_timeline.specs.Single.{IsSingle};
+ghost use Rattle.mp_movie.specs.Single.{IsSingle};
 
 use itoa::Buffer;
 use mp_timeline::PlainMovie;

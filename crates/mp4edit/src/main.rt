@@ -2,8 +2,10 @@
 //! standard error and by its status how it ended.
 #![tactic(auto)]
 
-ghost use Rattle.std.specs.Prelude.{◌≡◌, ◌<◌, ◌^◌, length};
-ghost use Rattle.mp4edit.specs.Status.{status};
+ghost use Rattle.std.specs.Prelude.{◌≡◌, ◌<◌, ◌^◌, length, map, string_bytes};
+ghost use Rattle.mp4edit.specs.Run.{AnswersWords};
+ghost use Rattle.mp4edit.specs.Status.{status, IsStatusOf};
+ghost use Rattle.mp4edit.specs.Words.{job};
 
 mod ending;
 mod input;
@@ -17,12 +19,12 @@ mod tests;
 mod words;
 
 pub use ending::Ending;
+pub use mp_words::{Job, WordFail, WordKind, read_words};
 use real::{RealFolder, RealReport};
 pub use run::mp4edit;
 use std::env;
 use std::io::{self, ErrorKind};
 use std::process::ExitCode;
-pub use words::{Job, WordFail, WordKind, read_words};
 
 /// The status where the system doesn't give the words, or gives too many.
 const NO_WORDS: u8 = 8;
@@ -44,14 +46,22 @@ fn line_words(rt: &HostRuntime) -> io::Result<Vec<String>> {
     Ok(words.skip(1).collect(rt.alloc())?)
 }
 
-// Runs the line, and answers the status.
+// Runs the line, tells of the ending, and answers its status.
 fn run_on(rt: &HostRuntime, words: &[String]) -> u8
     requires { length words.now < 2 ^ 31 }
+    ensures { IsStatusOf result (job (map string_bytes words.now)) }
+{
+    told(rt, run_job(rt, words))
+}
+
+// Runs the line over the files of the system. What a failed run began is removed when it returns.
+fn run_job(rt: &HostRuntime, words: &[String]) -> Ending
+    requires { length words.now < 2 ^ 31 }
+    ensures { AnswersWords result (job (map string_bytes words.now)) }
 {
     let mut folder = RealFolder::new(rt, rt.alloc());
     let mut report = RealReport::new(rt);
-    let ending = mp4edit(rt.alloc(), words, &mut folder, &mut report);
-    told(rt, ending)
+    mp4edit(rt.alloc(), words, &mut folder, &mut report)
 }
 
 // Tells of the ending on standard error, unless all is done, and answers its status.

@@ -1,24 +1,7 @@
 // What is said of an ending on standard error.
 use crate::ending::Ending;
-use crate::words::WordKind;
 use mp_ports::Bad;
 use std::fmt;
-
-impl fmt::Display for WordKind {
-    fn fmt<W: fmt::Write>(&self, f: &mut fmt::Formatter<W>) -> fmt::Result {
-        f.write_str(match *self {
-            WordKind::Empty => "no words",
-            WordKind::Unknown => "unknown word",
-            WordKind::Mixed => "not together",
-            WordKind::OutTwice => "-out twice",
-            WordKind::Missing => "argument missing",
-            WordKind::Argument => "argument refused",
-            WordKind::NoOut => "no -out",
-            WordKind::SameName => "output is an input",
-            WordKind::NotYet => "not built yet",
-        })
-    }
-}
 
 impl fmt::Display for Ending {
     fn fmt<W: fmt::Write>(&self, f: &mut fmt::Formatter<W>) -> fmt::Result {

@@ -5,12 +5,13 @@ ghost use Rattle.mp4edit.specs.Outcome.{outcome};
 ghost use Rattle.mp4edit.specs.Run.{HasCauses, RaisesMisses, AnswersWords, IsUntouched, AreInputs, Leaves, SaysNothing, Tells, SaysLine, Completes};
 
 use crate::ending::Ending;
-use crate::input::{InputFail, read_input};
+use crate::input::{InputFail, read_movie};
 use crate::line::{sample_count, wrote_line};
 use crate::output::write_file;
-use crate::words::{WordFail, read_words};
+use crate::words::read_job;
 use mp_layout::plan_file;
 use mp_ports::{Folder, Report};
+use mp_words::WordFail;
 use std::alloc::Global;
 
 /// Does all that a line of words asks for, over a folder and a report, and says how it ended.
@@ -49,12 +50,12 @@ pub fn mp4edit<F: Folder, R: Report>(
         Completes result (outcome job files) (F.state folder.old) (F.state folder.new)
         (R.state report.old) (R.state report.new))) }
 {
-    let job = match read_words(alloc, words) {
+    let job = match read_job(alloc, words) {
         Ok(job) => job,
         Err(WordFail::Words { word, kind }) => return Ending::Words { word, kind },
         Err(WordFail::NoMemory) => return Ending::NoMemory,
     };
-    let movie = match read_input(alloc, folder, &job.input, job.command) {
+    let movie = match read_movie(alloc, folder, &job) {
         Ok(movie) => movie,
         Err(InputFail::Missing) => {
             return Ending::NoFile {

@@ -130,6 +130,10 @@ fn refused(code: Code, place: u64) -> Ending {
     Ending::Refused(Bad { command: 1, ..bad })
 }
 
+fn fault(word: u32, kind: WordKind) -> Ending {
+    Ending::Words { word, kind }
+}
+
 #[test]
 fn one_frame_is_written(rt: HostRuntime) -> Result<(), Fail> {
     let alloc = rt.alloc();
@@ -194,11 +198,7 @@ fn streams_are_written(rt: HostRuntime) -> Result<(), Fail> {
 fn what_is_refused_is_not_written(rt: HostRuntime) -> Result<(), Fail> {
     let alloc = rt.alloc();
     let job = &["-add", "a.aac", "-out", "b.mp4"];
-    let not_yet = Ending::Words {
-        word: 0,
-        kind: WordKind::NotYet,
-    };
-    let rows: [(&[&str], &[u8], Ending); 19] = [
+    let rows: [(&[&str], &[u8], Ending); 23] = [
         (job, b"", refused(Code::AdtsEmpty, 0)),
         (
             job,
@@ -250,14 +250,46 @@ fn what_is_refused_is_not_written(rt: HostRuntime) -> Result<(), Fail> {
             FRAME,
             Ending::NoFile { command: 1 },
         ),
-        (&[], FRAME, not_yet),
-        (&["-add", "a.aac"], FRAME, not_yet),
-        (&["-out", "b.mp4", "-add", "a.aac"], FRAME, not_yet),
-        (&["-add", "a.aac", "-out", "b.mp3"], FRAME, not_yet),
-        (&["-add", "a.mp3", "-out", "b.mp4"], FRAME, not_yet),
-        (&["-ADD", "a.aac", "-out", "b.mp4"], FRAME, not_yet),
-        (&["-add", "a.aac", "-out", "b.mp4", ""], FRAME, not_yet),
-        (&["-add", "aac", "-out", "b.mp4"], FRAME, not_yet),
+        (
+            &["-out", "b.mp4", "-add", "zz.aac"],
+            FRAME,
+            Ending::NoFile { command: 2 },
+        ),
+        (&[], FRAME, fault(0, WordKind::Empty)),
+        (&["-add", "a.aac"], FRAME, fault(0, WordKind::NoOut)),
+        (
+            &["-add", "a.aac", "-out", "b.mp3"],
+            FRAME,
+            fault(4, WordKind::Argument),
+        ),
+        (
+            &["-ADD", "a.aac", "-out", "b.mp4"],
+            FRAME,
+            fault(1, WordKind::Unknown),
+        ),
+        (
+            &["-add", "a.mp4", "-out", "a.mp4"],
+            FRAME,
+            fault(4, WordKind::SameName),
+        ),
+        (
+            &["-add", "a.mp4", "-out", "b.mp4"],
+            FRAME,
+            fault(1, WordKind::NotYet),
+        ),
+        (
+            &["-add", "a.aac", "-add", "a.aac", "-out", "b.mp4"],
+            FRAME,
+            fault(3, WordKind::NotYet),
+        ),
+        (
+            &["-out", "b.mp4", "-inter", "0", "-add", "a.aac"],
+            FRAME,
+            fault(3, WordKind::NotYet),
+        ),
+        (&["-out", "b.mp4"], FRAME, fault(1, WordKind::NotYet)),
+        (&["-info", "a.mp4"], FRAME, fault(1, WordKind::NotYet)),
+        (&["-gen", "50"], FRAME, fault(1, WordKind::NotYet)),
     ];
     for (texts, bytes, ending) in rows {
         let line = words(alloc, texts)?;

@@ -1,47 +1,18 @@
-// The words of the line.
-ghost use Rattle.std.specs.Prelude.{◌≡◌, ◌<◌, ◌^◌, length, map, string_bytes};
-ghost use Rattle.std.specs.Str.{str_eq_ignore_ascii_case};
-ghost use Rattle.mp4edit.specs.Words.{ends_with, is_adts_name, is_mp4_name, job};
+// The job of a line, as far as jobs are built.
+ghost use Rattle.std.specs.Prelude.{◌≡◌, ◌<◌, ◌≤◌, ◌*◌, ◌-◌, ◌^◌, false, length, map, string_bytes, IfSome, IfOk};
+ghost use Rattle.mp_words.specs.Answers.{job_record};
+ghost use Rattle.mp_words.specs.Names.{kind_of};
+ghost use Rattle.mp4edit.specs.Words.{added_behind, first_unbuilt, is_adts, job, with_input};
 ghost use Rattle.mp4edit.specs.Reading.{GivesJob};
 
+use mp_words::{Command, FileKind, Job, What, WordFail, WordKind, kind_of, read_words};
 use std::alloc::Global;
 use std::marker::Model;
 
-/// Why a line is no job.
-#[derive(Clone, Copy, Debug, PartialEq, Eq)]
-pub enum WordKind {
-    /// There are no words.
-    Empty,
-    /// The word in an option's place isn't an option.
-    Unknown,
-    /// Options that can't stand together.
-    Mixed,
-    /// A second `-out`.
-    OutTwice,
-    /// The option is the last word, and wants an argument.
-    Missing,
-    /// The argument isn't as the option wants it.
-    Argument,
-    /// The line has no `-out`.
-    NoOut,
-    /// The output is an input too.
-    SameName,
-    /// The line says what isn't built yet.
-    NotYet,
-}
-
-/// Why the words give no job.
-#[derive(Clone, Copy, Debug, PartialEq, Eq)]
-pub enum WordFail {
-    /// The word of that number, counted from 1, is at fault; 0 is the line.
-    Words { word: u32, kind: WordKind },
-    NoMemory,
-}
-
-/// What a line asks for: the option `command` imports the file `input`, and the option `out_command`
-/// writes the file `out`, with chunks of `window` milliseconds (0: of any length).
+/// A job that is built: the option `command` imports the file `input`, a stream of ADTS frames, and the
+/// option `out_command` writes the file `out`, with chunks of `window` milliseconds (0: of any length).
 #[derive(Drop)]
-pub struct Job {
+pub struct BuiltJob {
     pub input: String,
     pub command: u32,
     pub out: String,
@@ -49,7 +20,7 @@ pub struct Job {
     pub window: u32,
 }
 
-impl Model for Job {
+impl Model for BuiltJob {
     ghost use Rattle.std.specs.Prelude.{string_bytes};
     ghost use Rattle.mp4edit.specs.Words.{JobRecord};
 
@@ -64,65 +35,104 @@ impl Model for Job {
     } };
 }
 
-fn ends_with(name: &str, suffix: &str) -> bool
-    ensures { result ≡ ends_with name.now suffix.now }
+/// Reads the words of a line, and asks whether all is built that they ask for.
+///
+/// `WordFail::Words` exactly where the line is no job, with the word that is at fault first, or else where it
+/// asks for what isn't built, with the word of the first option that does.
+pub fn read_job(alloc: Global, words: &[String]) -> Result<BuiltJob, WordFail>
+    requires { length words.now < 2 ^ 32 }
+    ensures job { GivesJob result (job (map string_bytes words.now)) }
+    ensures window { IfOk result (λ job. job.window ≡ 0) }
 {
-    let name = name.as_bytes();
-    let from = name.len().saturating_sub(suffix.len());
-    is_same_word(&name[from..], suffix.as_bytes())
+    let line = match read_words(alloc, words) {
+        Ok(line) => line,
+        Err(fail) => return Err(fail),
+    };
+    if let Some(place) = first_unbuilt(words) {
+        return Err(not_yet(place));
+    }
+    with_input(line)
 }
 
-// In either ASCII case.
-fn is_same_word(word: &[u8], other: &[u8]) -> bool
-    ensures { result ≡ str_eq_ignore_ascii_case word.now other.now }
+fn not_yet(place: u32) -> WordFail
+    requires some { 0 < place }
+    requires many { 2 * place ≤ 2 ^ 32 }
+    ensures { result ≡ WordFail.Words (2 * place - 1) WordKind.NotYet }
 {
-    word.eq_ignore_ascii_case(other)
+    WordFail::Words {
+        word: place + (place - 1),
+        kind: WordKind::NotYet,
+    }
+}
+
+/// The number of the first option that asks for what isn't built.
+fn first_unbuilt(words: &[String]) -> Option<u32>
+    requires { length words.now < 2 ^ 32 }
+    ensures number { result ≡ first_unbuilt (map string_bytes words.now) 1 false }
+    ensures some { IfSome result (λ place. 0 < place) }
+    ensures many { IfSome result (λ place. 2 * place ≤ 2 ^ 32) }
+{
+    let mut added = false;
+    let mut at = 0;
+    let mut place = 1;
+    while at + 1 < words.len() {
+        match added_behind(added, &words[at], &words[at + 1]) {
+            Some(now) => added = now,
+            None => return Some(place),
+        }
+        at += 2;
+        place += 1;
+    }
+    None
+}
+
+/// Whether an input is added behind the option; `None` where the option asks for what isn't built.
+fn added_behind(added: bool, option: &str, argument: &str) -> Option<bool>
+    ensures { result ≡ added_behind added option.now argument.now }
+{
+    if option == "-out" {
+        return Some(added);
+    }
+    if option == "-add" && is_adts_name(argument) && !added {
+        return Some(true);
+    }
+    None
 }
 
 fn is_adts_name(name: &str) -> bool
-    ensures { result ≡ is_adts_name name.now }
+    ensures { result ≡ is_adts (kind_of name.now) }
 {
-    ends_with(name, ".aac") || ends_with(name, ".adts")
+    matches!(kind_of(name), Some(FileKind::Adts))
 }
 
-fn is_mp4_name(name: &str) -> bool
-    ensures { result ≡ is_mp4_name name.now }
+/// The job of a line with one input.
+fn with_input(line: Job) -> Result<BuiltJob, WordFail>
+    ensures job { GivesJob result (with_input (job_record line)) }
+    ensures window { IfOk result (λ job. job.window ≡ 0) }
 {
-    ends_with(name, ".mp4") || ends_with(name, ".m4a") || ends_with(name, ".m4v")
-}
-
-/// Reads the words of a line.
-///
-/// `WordFail::Words` exactly where the line is no job, with the word that is at fault first.
-pub fn read_words(alloc: Global, words: &[String]) -> Result<Job, WordFail>
-    requires { length words.now < 2 ^ 32 }
-    ensures { GivesJob result (job (map string_bytes words.now)) }
-{
-    let not_yet = Err(WordFail::Words {
-        word: 0,
-        kind: WordKind::NotYet,
-    });
-    let [add, input, out, name] = words else {
-        return not_yet;
-    };
-    if add.as_str() != "-add"
-        || !is_adts_name(input)
-        || out.as_str() != "-out"
-        || !is_mp4_name(name)
-    {
-        return not_yet;
-    }
-    let Ok(input) = input.clone() else {
-        return Err(WordFail::NoMemory);
-    };
-    let Ok(out) = name.clone() else {
-        return Err(WordFail::NoMemory);
-    };
-    Ok(Job {
-        input,
-        command: 1,
+    let Job::Edit {
+        mut commands,
         out,
-        out_command: 2,
+        out_command,
+        window: _,
+    } = line
+    else {
+        return Err(not_yet(1));
+    };
+    if commands.len() != 1 {
+        return Err(not_yet(1));
+    }
+    let Some(Command { place, what }) = commands.pop() else {
+        return Err(not_yet(1));
+    };
+    let What::Add { name, .. } = what else {
+        return Err(not_yet(1));
+    };
+    Ok(BuiltJob {
+        input: name,
+        command: place,
+        out,
+        out_command,
         window: 0,
     })
 }

@@ -3,7 +3,7 @@ use Rattle.std.proofs.Common.{◌≡◌, ◌⊎◌, ℕ, zero, suc, ◌+◌, ◌
 use Rattle.std.proofs.lemmas.List.{drop_at, length-append, length-drop, get_or-drop, same_lists, places}
 use Rattle.mp_ports.specs.declared.code.Code.{Code}
 use Rattle.mp_ports.specs.declared.fault.Bad.{Bad}
-use Rattle.mp_ports.specs.Answer.{bad_at, unless, ◌>>=◌, placed}
+use Rattle.mp_ports.specs.Checks.{bad_at, unless, ◌>>=◌, placed}
 use Rattle.mp_boxes.specs.declared.head.TopHead.{TopHead}
 use Rattle.mp_boxes.specs.Header.{IsHeader}
 use Rattle.mp_boxes.specs.Head.{head_fault, head_at, header_len, box_size}

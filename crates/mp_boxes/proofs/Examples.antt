@@ -2,7 +2,7 @@
 use Rattle.std.proofs.Common.{◌≡◌, ◌++◌, ◌∷◌, [], true, false, Ok, Err, None, refl}
 use Rattle.std.specs.Prelude.{codes}
 use Rattle.mp_ports.specs.declared.code.Code.TheVariants.{BoxCut, BoxSize, BoxMissing, BoxTwice}
-use Rattle.mp_ports.specs.Answer.{bad_at}
+use Rattle.mp_ports.specs.Checks.{bad_at}
 use Rattle.mp_boxes.specs.Number.{u32_at, u64_at, kind_at}
 use Rattle.mp_boxes.specs.Boxes.{walk, boxes}
 use Rattle.mp_boxes.specs.Child.{one_child, optional_child}

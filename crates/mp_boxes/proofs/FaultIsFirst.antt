@@ -1,19 +1,19 @@
 -- A walk over the boxes of a container's body tells whether it is whole boxes, or its first fault.
-use Rattle.std.proofs.Common.{◌≡◌, ℕ, ◌+◌, ◌-◌, ◌≤◌, Bool, false, List, [], ◌∷◌, ◌++◌, length, drop, Option, Some, None, Result, Ok, Err, refl, sym, ap, subst, ◌∙◌, arith, inl, inr, Fits, w8, get_or, IsOk}
+use Rattle.std.proofs.Common.{◌≡◌, ℕ, ◌+◌, ◌-◌, ◌≤◌, Bool, false, List, [], ◌∷◌, ◌++◌, length, drop, Option, Some, None, Result, Ok, Err, refl, sym, ap, subst, ◌∙◌, arith, inl, inr, Fits, w8, get_or}
 use Rattle.std.proofs.lemmas.Bool.{cases_eq, ne_eqb, eq-eqb}
 use Rattle.std.proofs.lemmas.List.{length-append, length-drop, drop-drop, drop_all, get_or-drop}
 use Rattle.mp_ports.specs.declared.code.Code.{Code}
 use Rattle.mp_ports.specs.declared.fault.Bad.{Bad}
-use Rattle.mp_ports.specs.Answer.{bad_at, ◌>>=◌, placed}
+use Rattle.mp_ports.specs.Checks.{bad_at, ◌>>=◌, placed}
 use Rattle.mp_boxes.specs.declared.head.TopHead.{TopHead}
 use Rattle.mp_boxes.specs.declared.head.BoxHead.{BoxHead}
 use Rattle.mp_boxes.specs.Head.{head_fault, head_at, box_head, next_head}
-use Rattle.mp_boxes.specs.Boxes.{IsBytes, Box, IsCut, IsFirstFault, front_box, boxes}
+use Rattle.mp_boxes.specs.Boxes.{IsBytes, Box, IsContainer, IsCut, IsFirstFault, front_box}
 use Rattle.mp_boxes.proofs.HeadsWereSpelled.{head_at-spelled}
 use Rattle.mp_boxes.proofs.CutInOneWay.{rest_within, cut-more, walk-cut}
 
 -- boxes behind boxes
-pub cut-behind : (top : Bool) (place : ℕ) (text : List ℕ) (before : List Box) (middle : List ℕ) (more : List Box) (rest : List ℕ) → IsCut top place text before middle
+cut-behind : (top : Bool) (place : ℕ) (text : List ℕ) (before : List Box) (middle : List ℕ) (more : List Box) (rest : List ℕ) → IsCut top place text before middle
     → IsCut top (place + (length text - length middle)) middle more rest → IsCut top place text (before ++ more) rest
 cut-behind top place text [] middle more rest c d = rw c (subst (λ (k : ℕ). IsCut top k middle more rest) (omega (arith, ap length c)) d)
 cut-behind top place text (box ∷ before) middle more rest c d =
@@ -26,9 +26,6 @@ cut-behind top place text (box ∷ before) middle more rest c d =
 pub record Walked (base : ℕ) (bytes : List ℕ) (at : ℕ) : Type 0 where
   pub before : List Box
   pub cut : IsCut false base bytes before (drop at bytes)
-
-pub walked_first : (base : ℕ) (bytes : List ℕ) → Walked base bytes 0
-walked_first base bytes = record { before = []; cut = refl }
 
 found_inj : (x y : BoxHead) → let f : BoxHead → Result (Option BoxHead) Bad = λ v. Ok (Some v) in f x ≡ f y → x ≡ y
 found_inj x y e = cc
@@ -115,5 +112,10 @@ walked_to_fault base at bytes bad le e w =
       bad_is = n.2 ∙ ap (bad_at n.0) there;
     }
 
-pub all_read : (base : ℕ) (bytes : List ℕ) (all : List Box) → IsCut false base bytes all [] → IsOk (boxes false base bytes)
-all_read base bytes all cut = rw (walk-cut (length bytes) false base bytes all cut (omega arith)) refl
+pub all_read : (base : ℕ) (bytes : List ℕ) (all : List Box) → IsCut false base bytes all [] → IsContainer base bytes
+all_read base bytes all cut = record {
+  children = all;
+  cut = cut;
+  left = subst (λ (k : ℕ). IsCut false k bytes all []) (omega arith) cut;
+  read = walk-cut (length bytes) false base bytes all cut (omega arith);
+}

@@ -8,7 +8,7 @@ use Rattle.std.proofs.lemmas.List.{take-append-drop, length-take, length-drop, d
 use Rattle.std.proofs.lemmas.Nat.{be_bytes_4, be_bytes_8}
 use Rattle.mp_ports.specs.declared.code.Code.{Code}
 use Rattle.mp_ports.specs.declared.code.Code.TheVariants.{BoxCut, BoxSize}
-use Rattle.mp_ports.specs.Answer.{unless}
+use Rattle.mp_ports.specs.Checks.{unless}
 use Rattle.mp_boxes.specs.declared.head.TopHead.{TopHead}
 use Rattle.mp_boxes.specs.Number.{u32_at, u64_at, kind_at}
 use Rattle.mp_boxes.specs.Header.{Short, Long, Open, IsHeader}
@@ -32,7 +32,7 @@ pub record Passed (top : Bool) (front : List ℕ) (rest : ℕ) (h : TopHead) : T
   pub head_in : h.head ≤ h.len
   pub len_in : h.len ≤ rest
 
-pub head_from-passed : (top : Bool) (front : List ℕ) (rest : ℕ) (h : TopHead) → head_from top front rest ≡ Ok h → Passed top front rest h
+head_from-passed : (top : Bool) (front : List ℕ) (rest : ℕ) (h : TopHead) → head_from top front rest ≡ Ok h → Passed top front rest h
 head_from-passed top front rest h e =
     let head = header_len front in
     let len = box_size front rest in

@@ -1,7 +1,7 @@
 -- A number that stands at a place is read there, whatever is around it.
-use Rattle.std.proofs.Common.{◌≡◌, ℕ, ◌+◌, ◌^◌, ◌<◌, ◌≤◌, List, [], ◌∷◌, ◌++◌, length, slice_index, take, drop, refl, ap, ◌∙◌, arith}
+use Rattle.std.proofs.Common.{◌≡◌, ℕ, ◌+◌, ◌^◌, ◌<◌, ◌≤◌, List, [], ◌∷◌, ◌++◌, length, slice_index, take, refl, ap, ◌∙◌, arith}
 use Rattle.std.specs.Int.{w16, w32, w64, to_be_bytes}
-use Rattle.std.proofs.lemmas.List.{get_or-append-add, get_or-drop, get_or-take}
+use Rattle.std.proofs.lemmas.List.{get_or-append-add, get_or-take}
 use Rattle.std.proofs.lemmas.Nat.{from_be_bytes-to_be_bytes_2, from_be_bytes-to_be_bytes_4, from_be_bytes-to_be_bytes_8}
 use Rattle.mp_boxes.specs.Number.{u16_at, u32_at, u64_at, kind_at}
 
@@ -13,16 +13,13 @@ pub record HasSameBytes (count : ℕ) (xs : List ℕ) (i : ℕ) (ys : List ℕ) 
 pub behind : (count : ℕ) (front rest : List ℕ) (at i : ℕ) → at ≡ length front + i → HasSameBytes count (front ++ rest) at rest i
 behind count front rest at i e = record { same = λ k lt. ap (λ (m : ℕ). slice_index (front ++ rest) m) (omega arith) ∙ get_or-append-add front rest (i + k) 0 }
 
-pub in_rest : (count n : ℕ) (xs : List ℕ) (i : ℕ) → HasSameBytes count (drop n xs) i xs (n + i)
-in_rest count n xs i = record { same = λ k lt. get_or-drop n xs (i + k) 0 ∙ ap (λ (m : ℕ). slice_index xs m) (omega arith) }
-
 pub in_front : (count n : ℕ) (xs : List ℕ) (i : ℕ) → i + count ≤ n → HasSameBytes count (take n xs) i xs i
 in_front count n xs i h = record { same = λ k lt. get_or-take n xs (i + k) 0 (omega arith) }
 
 first_byte : (count : ℕ) (xs : List ℕ) (i : ℕ) (ys : List ℕ) (j : ℕ) → 0 < count → HasSameBytes count xs i ys j → slice_index xs i ≡ slice_index ys j
 first_byte count xs i ys j some s = ap (λ (m : ℕ). slice_index xs m) (omega arith) ∙ (s.same 0 some ∙ ap (λ (m : ℕ). slice_index ys m) (omega arith))
 
-pub u16_at-same : (xs ys : List ℕ) (i j : ℕ) → HasSameBytes 2 xs i ys j → u16_at xs i ≡ u16_at ys j
+u16_at-same : (xs ys : List ℕ) (i j : ℕ) → HasSameBytes 2 xs i ys j → u16_at xs i ≡ u16_at ys j
 unfolding u16_at
 u16_at-same xs ys i j s = rw (first_byte 2 xs i ys j (omega arith) s, s.same 1 (omega arith)) refl
 
@@ -62,7 +59,7 @@ pub u64_at-written : (n : ℕ) (rest : List ℕ) → n < 2 ^ 64 → u64_at (to_b
 unfolding u64_at
 u64_at-written n rest h = from_be_bytes-to_be_bytes_8 n h
 
-pub kind_at-written : (kind rest : List ℕ) → length kind ≡ 4 → kind_at (kind ++ rest) 0 ≡ kind
+kind_at-written : (kind rest : List ℕ) → length kind ≡ 4 → kind_at (kind ++ rest) 0 ≡ kind
 unfolding kind_at
 kind_at-written (a ∷ b ∷ c ∷ d ∷ []) rest e = refl
 kind_at-written [] rest e = absurd cc

@@ -8,6 +8,7 @@ use Rattle.mp_boxes.specs.Boxes.{Box, IsCut, boxes}
 use Rattle.mp_boxes.specs.Field.{Part, box_bytes, boxes_bytes}
 use Rattle.mp_boxes.specs.Parts.{HasPlainKind, listed}
 use Rattle.mp_boxes.proofs.CutInOneWay.{walk-cut}
+use Rattle.mp_boxes.proofs.Lengths.{box_bytes-len}
 
 header : Part → List ℕ
 header part = to_be_bytes w32 (8 + length part.body) ++ part.kind
@@ -27,17 +28,14 @@ is_header top after part k short = record {
   text = ap (λ (n : ℕ). to_be_bytes w32 n ++ part.kind) (omega arith) ∙ sym (append-nil _);
 }
 
-box_bytes-len : (part : Part) → HasPlainKind part → length (box_bytes part) ≡ 8 + length part.body
-unfolding box_bytes header
-box_bytes-len part k = omega (arith, length-append (header part) part.body, header-len part k)
-
 -- parts in front of a text are cut off as just these boxes
 pub parts-cut : (top : Bool) (place : ℕ) (parts : List Part) (after : List ℕ) (more : List Box) → AllByRecursion HasPlainKind parts → length (boxes_bytes parts) < 2 ^ 32
     → IsCut top (place + length (boxes_bytes parts)) after more [] → IsCut top place (boxes_bytes parts ++ after) (listed place parts ++ more) []
 unfolding header box_bytes boxes_bytes
 parts-cut top place [] after more kinds lt c = subst (λ (k : ℕ). IsCut top k after more []) (omega arith) c
 parts-cut top place (part ∷ parts) after more kinds lt c =
-    let len = box_bytes-len part kinds.0 in
+    let len = box_bytes-len part in
+    let four = kinds.0.four in
     let all : length (box_bytes part ++ boxes_bytes parts) ≡ (8 + length part.body) + length (boxes_bytes parts) = omega (arith, length-append (box_bytes part) (boxes_bytes parts)) in
     let later : IsCut top (place + (8 + length part.body) + length (boxes_bytes parts)) after more [] = subst (λ (k : ℕ). IsCut top k after more []) (omega arith) c in (
       boxes_bytes parts ++ after,

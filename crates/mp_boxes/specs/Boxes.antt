@@ -1,11 +1,11 @@
 -- A text as boxes, one after another (ISO/IEC 14496-12, 4.2).
-use Rattle.std.specs.Prelude.{◌≡◌, ℕ, zero, suc, ◌+◌, ◌-◌, ◌<◌, Bool, List, [], ◌∷◌, ◌++◌, length, slice_index, take, drop, Some, Result, Ok}
+use Rattle.std.specs.Prelude.{◌≡◌, ℕ, zero, suc, ◌+◌, ◌-◌, ◌<◌, Bool, false, List, [], ◌∷◌, ◌++◌, length, slice_index, take, drop, Some, Result, Ok}
 use Rattle.mp_ports.specs.declared.code.Code.{Code}
 use Rattle.mp_ports.specs.declared.fault.Bad.{Bad}
-use Rattle.mp_ports.specs.Answer.{bad_at, ◌>>=◌, placed}
+use Rattle.mp_ports.specs.Checks.{bad_at, ◌>>=◌, placed}
 use Rattle.mp_boxes.specs.declared.head.TopHead.{TopHead}
 use Rattle.mp_boxes.specs.Header.{IsHeader}
-use Rattle.mp_boxes.specs.Head.{head_fault, head_at}
+use Rattle.mp_boxes.specs.Head.{IsWhole, head_fault, head_at}
 
 -- each is a byte
 abbrev pub IsBytes : List ℕ → Type 0
@@ -33,6 +33,16 @@ IsCut top place text (box ∷ boxes) rest =
     (after : List ℕ) × IsHeader top box.kind (length box.body) after box.header × (text ≡ box.header ++ (box.body ++ after)) × (box.place ≡ place)
     × IsCut top (place + length box.header + length box.body) after boxes rest
 
+-- the boxes that are left from `at` on in a container's body that stands at `base`
+abbrev pub AreLeft : ℕ → ℕ → List ℕ → List Box → Type 0
+AreLeft base at bytes left = IsCut false (base + at) (drop at bytes) left []
+
+-- the bytes of the box alone are one whole box, of its type and with its header
+pub record IsOnItsOwn (box : Box) : Type 0 where
+  pub whole : IsWhole (whole_box box)
+  pub kind : whole.head.kind ≡ box.kind
+  pub header : whole.head.head ≡ length box.header
+
 -- the text is some boxes, and then the box whose head has that fault
 pub record IsFirstFault (top : Bool) (place : ℕ) (text : List ℕ) (bad : Bad) : Type 0 where
   pub before : List Box
@@ -59,3 +69,10 @@ walk (suc most) top place (byte ∷ bytes) = do
 -- the boxes of a text that stands at `place`, or its first fault
 abbrev pub boxes : Bool → ℕ → List ℕ → Result (List Box) Bad
 boxes top place text = walk (length text) top place text
+
+-- a container's body that stands at `base` is whole boxes, is read as these, and they are left where a walk begins
+pub record IsContainer (base : ℕ) (bytes : List ℕ) : Type 0 where
+  pub children : List Box
+  pub cut : IsCut false base bytes children []
+  pub left : AreLeft base 0 bytes children
+  pub read : boxes false base bytes ≡ Ok children

@@ -3,7 +3,7 @@
 use Rattle.std.specs.Prelude.{ℕ, zero, suc, ◌+◌, ◌*◌, ◌/◌, ◌%◌, ◌^◌, ◌≤◌, Bool, nat_lt, Option, List, [], ◌∷◌, ◌++◌, length, take, drop}
 use Rattle.mp_ports.specs.declared.code.Code.{Code}
 use Rattle.mp_ports.specs.declared.code.Code.TheVariants.{BoxVersion, TableLength}
-use Rattle.mp_ports.specs.Answer.{first_code}
+use Rattle.mp_ports.specs.Checks.{first_code}
 use Rattle.mp_boxes.specs.Number.{u32_at}
 
 -- the version: the first of the four bytes

@@ -4,7 +4,7 @@ use Rattle.std.specs.Str.{bytes_eq}
 use Rattle.mp_ports.specs.declared.code.Code.{Code}
 use Rattle.mp_ports.specs.declared.code.Code.TheVariants.{BoxCut, BoxSize}
 use Rattle.mp_ports.specs.declared.fault.Bad.{Bad}
-use Rattle.mp_ports.specs.Answer.{first_code, placed, unless, ◌>>=◌}
+use Rattle.mp_ports.specs.Checks.{first_code, placed, unless, ◌>>=◌}
 use Rattle.mp_boxes.specs.declared.head.TopHead.{TopHead}
 use Rattle.mp_boxes.specs.declared.head.BoxHead.{BoxHead}
 use Rattle.mp_boxes.specs.Number.{u32_at, u64_at, kind_at}
@@ -36,6 +36,12 @@ head_from top front rest =
 -- the head at the front of all that is left
 abbrev pub head_at : Bool → List ℕ → Result TopHead Code
 head_at top text = head_from top text (length text)
+
+-- one whole box, as it stands inside a container
+pub record IsWhole (bytes : List ℕ) : Type 0 where
+  pub head : TopHead
+  pub read : head_at false bytes ≡ Ok head
+  pub ends : head.len ≡ length bytes
 
 -- the box of that head, which begins at `at`
 abbrev pub box_head : ℕ → TopHead → BoxHead

@@ -3,7 +3,12 @@ pub mod Header
 pub mod Head
 pub mod Boxes
 pub mod Child
+pub mod Counted
+pub mod Laws
 pub mod Field
-pub mod Front
+pub mod Reading
 pub mod Parts
 pub mod FullBox
+pub mod Table
+pub mod Push
+pub mod Format

@@ -1,9 +1,10 @@
 -- Boxes that are written one after another, as they are read.
-use Rattle.std.specs.Prelude.{◌≡◌, ℕ, ◌+◌, false, List, [], ◌∷◌, ◌++◌, length, codes}
+use Rattle.std.specs.Prelude.{◌≡◌, ℕ, ◌+◌, ◌^◌, ◌<◌, Bool, Ok, false, List, [], ◌∷◌, ◌++◌, length, codes}
+use Rattle.std.specs.List.{AllByRecursion}
 use Rattle.std.specs.Str.{bytes_eq}
 use Rattle.std.specs.Int.{w32, to_be_bytes}
-use Rattle.mp_boxes.specs.Field.{Part}
-use Rattle.mp_boxes.specs.Boxes.{Box}
+use Rattle.mp_boxes.specs.Field.{Part, boxes_bytes}
+use Rattle.mp_boxes.specs.Boxes.{Box, IsCut, boxes}
 
 -- a type of four bytes, and not `uuid`, whose header is longer
 pub record HasPlainKind (part : Part) : Type 0 where
@@ -18,3 +19,10 @@ box_of place part = record { kind = part.kind; header = to_be_bytes w32 (8 + len
 abbrev pub listed : ℕ → List Part → List Box
 listed place [] = []
 listed place (part ∷ parts) = box_of place part ∷ listed (place + (8 + length part.body)) parts
+
+-- boxes that are written one after another are read as just these boxes, and in front of a text that is cut into others
+pub record PartsAreRead : Type 0 where
+  pub alone : (top : Bool) (place : ℕ) (parts : List Part) → AllByRecursion HasPlainKind parts → length (boxes_bytes parts) < 2 ^ 32
+      → boxes top place (boxes_bytes parts) ≡ Ok (listed place parts)
+  pub in_front : (top : Bool) (place : ℕ) (parts : List Part) (after : List ℕ) (more : List Box) → AllByRecursion HasPlainKind parts → length (boxes_bytes parts) < 2 ^ 32
+      → IsCut top (place + length (boxes_bytes parts)) after more [] → IsCut top place (boxes_bytes parts ++ after) (listed place parts ++ more) []

@@ -1,7 +1,7 @@
 //! Full boxes (ISO/IEC 14496-12, 4.2): version and flags, and tables behind them.
 
 ghost use Rattle.std.specs.Prelude.{◌≡◌, ◌≤◌, ◌<◌, ◌^◌, length, IfOk, OnOk};
-ghost use Rattle.mp_ports.specs.Answer.{first_code, placed, unless};
+ghost use Rattle.mp_ports.specs.Checks.{first_code, placed, unless};
 ghost use Rattle.mp_boxes.specs.FullBox.{HasRows, first_field, flags, full_box_checks, row_count, table_fault, version};
 
 use crate::number::u32_in;

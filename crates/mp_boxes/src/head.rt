@@ -1,7 +1,9 @@
 //! The head of a box (ISO/IEC 14496-12, 4.2).
 
-ghost use Rattle.std.specs.Prelude.{◌≡◌, ◌+◌, ◌<◌, ◌≤◌, ◌^◌, length, min, IfOk, IfSome};
-ghost use Rattle.mp_boxes.specs.Head.{header_len, head_from, next_head, IsInside};
+ghost use Rattle.std.specs.Prelude.{◌≡◌, ◌+◌, ◌<◌, ◌≤◌, ◌^◌, List, length, min, slice_range, IfOk, IfSome};
+ghost use Rattle.mp_boxes.specs.Head.{header_len, head_from, next_head, IsInside, IsWhole};
+ghost use Rattle.mp_boxes.specs.Boxes.{AreLeft, Box};
+ghost use Rattle.mp_boxes.specs.Child.{IsNextOf};
 
 use crate::number::{kind_in, u32_in, u64_in};
 use mp_ports::{Bad, Code};
@@ -82,6 +84,9 @@ pub fn next_box(bytes: &[u8], at: usize, base: u64) -> Result<Option<BoxHead>, B
     requires place { base + length bytes.now < 2 ^ 64 }
     ensures head { result ≡ next_head base bytes.now at }
     ensures inside { IfOk result (λ found. IfSome found (IsInside bytes.now at)) }
+    // where the rest is cut into boxes, it is the next of them, and each is whole on its own
+    ensures next { (left : List Box) → AreLeft base at bytes.now left → IsNextOf base bytes.now left result }
+    ensures whole { IfOk result (λ found. IfSome found (λ head. IsWhole (slice_range bytes.now at (at + head.len)))) }
 {
     if at == bytes.len() {
         return Ok(None);

@@ -1,7 +1,6 @@
-//! Numbers at a place of a slice, and the bytes of numbers, most significant byte first.
+//! Numbers at a place of a slice, most significant byte first.
 
 ghost use Rattle.std.specs.Prelude.{◌≡◌, ◌+◌, ◌≤◌, length};
-ghost use Rattle.std.specs.Int.{w16, w32, w64, to_be_bytes};
 ghost use Rattle.mp_boxes.specs.Number.{u16_at, u32_at, u64_at, kind_at};
 
 use byteorder::{BigEndian, ByteOrder};
@@ -40,31 +39,4 @@ pub fn kind_in(bytes: &[u8], at: usize) -> [u8; 4]
     ensures { result ≡ kind_at bytes.now at }
 {
     [bytes[at], bytes[at + 1], bytes[at + 2], bytes[at + 3]]
-}
-
-/// The two bytes of a number.
-pub fn u16_bytes(number: u16) -> [u8; 2]
-    ensures { result ≡ to_be_bytes w16 number }
-{
-    let mut bytes = [0; 2];
-    BigEndian::write_u16(&mut bytes, number);
-    bytes
-}
-
-/// The four bytes of a number.
-pub fn u32_bytes(number: u32) -> [u8; 4]
-    ensures { result ≡ to_be_bytes w32 number }
-{
-    let mut bytes = [0; 4];
-    BigEndian::write_u32(&mut bytes, number);
-    bytes
-}
-
-/// The eight bytes of a number.
-pub fn u64_bytes(number: u64) -> [u8; 8]
-    ensures { result ≡ to_be_bytes w64 number }
-{
-    let mut bytes = [0; 8];
-    BigEndian::write_u64(&mut bytes, number);
-    bytes
 }

@@ -4,9 +4,9 @@
 ghost use Rattle.std.specs.Prelude.{◌<◌, ◌^◌, length};
 
 use crate::{
-    FIRST_FIELD, FIRST_ROW, Field, Span, append_fields, at_most_one, check_boxes, check_full_box,
-    flags, head_of, next_box, one, put_box, put_head, row_count, u16_bytes, u32_bytes, u64_bytes,
-    version,
+    BoxHead, ChildBox, FIRST_FIELD, FIRST_ROW, Span, at_most_one, check_boxes, check_counted,
+    check_full_box, child_count, first_child, flags, head_of, next_box, next_child, one,
+    one_of_two, row_count, version,
 };
 use mp_ports::{Bad, Code};
 use std::test;
@@ -14,9 +14,9 @@ use std::test;
 // The first bytes of a box: a size, a type, 64 bits more, and zeros.
 fn front_of(size: u32, kind: &[u8; 4], wide: u64) -> [u8; 24] {
     let mut front = [0; 24];
-    front[..4].copy_from_slice(&u32_bytes(size));
+    front[..4].copy_from_slice(&size.to_be_bytes());
     front[4..8].copy_from_slice(kind);
-    front[8..16].copy_from_slice(&u64_bytes(wide));
+    front[8..16].copy_from_slice(&wide.to_be_bytes());
     front
 }
 
@@ -201,60 +201,163 @@ fn children(rt: HostRuntime) -> Result<(), test::Fail> {
     Ok(())
 }
 
+// The one sample size box, of either type (8.7.3), in a body that stands at 1000.
+fn sizes_box(bytes: &[u8]) -> Result<ChildBox, Bad>
+    requires { length bytes.now < 2 ^ 32 }
+{
+    check_boxes(bytes, 1000)?;
+    one_of_two(bytes, 1000, *b"stsz", *b"stz2")
+}
+
 #[test]
-fn written_boxes(rt: HostRuntime) -> Result<(), test::Fail> {
-    let mut out = [0xEE; 20];
-    assert_eq!(rt; put_head(&mut out, *b"mdat", 10), 8);
-    assert_eq!(rt; &out[..9], b"\0\0\0\x0Amdat\xEE".as_slice());
-    assert_eq!(rt; put_head(&mut out, *b"mdat", 4_294_967_295), 8);
-    assert_eq!(rt; &out[..9], b"\xFF\xFF\xFF\xFFmdat\xEE".as_slice());
-    assert_eq!(rt; put_head(&mut out, *b"mdat", 4_294_967_296), 16);
-    assert_eq!(rt;
-        &out[..17],
-        b"\0\0\0\x01mdat\0\0\0\x01\0\0\0\0\xEE".as_slice()
-    );
-    let fields = [
-        Field::version_and_flags(false, 1),
-        Field::U16(0x0102),
-        Field::Bytes(b"ab"),
+fn one_child_of_two_types(rt: HostRuntime) -> Result<(), test::Fail> {
+    // type, and where the body begins and ends and the box begins
+    let found = |kind: &[u8; 4], from: usize, to: usize, place: u64| {
+        let span = Span { from, to, place };
+        Ok(ChildBox { kind: *kind, span })
+    };
+    let rows: [(&[u8], Result<ChildBox, Bad>); 9] = [
+        (b"", Err(Bad::at(Code::BoxMissing, 1000))),
+        (b"\0\0\0\x08stco", Err(Bad::at(Code::BoxMissing, 1008))),
+        (b"\0\0\0\x09stszX", found(b"stsz", 8, 9, 1000)),
+        (
+            b"\0\0\0\x08stco\0\0\0\x0Astz2YZ",
+            found(b"stz2", 16, 18, 1008),
+        ),
+        // the second of the two types in the file, whichever type the first has
+        (
+            b"\0\0\0\x08stsz\0\0\0\x08stz2\0\0\0\x08stsz",
+            Err(Bad::at(Code::BoxTwice, 1008)),
+        ),
+        (
+            b"\0\0\0\x08stz2\0\0\0\x08stsz\0\0\0\x08stz2",
+            Err(Bad::at(Code::BoxTwice, 1008)),
+        ),
+        (
+            b"\0\0\0\x09stszX\0\0\0\x08stco\0\0\0\x08stsz",
+            Err(Bad::at(Code::BoxTwice, 1017)),
+        ),
+        (
+            b"\0\0\0\x08stz2\0\0\0\x08stz2",
+            Err(Bad::at(Code::BoxTwice, 1008)),
+        ),
+        // whether the body is whole boxes is asked first
+        (
+            b"\0\0\0\x08stsz\0\0\0\x08stsz\0\0\0\x09stco",
+            Err(Bad::at(Code::BoxCut, 1016)),
+        ),
     ];
-    assert_eq!(rt; put_box(&mut out, *b"url ", &fields), 16);
-    assert_eq!(rt;
-        &out[..17],
-        b"\0\0\0\x10url \0\0\0\x01\x01\x02ab\xEE".as_slice()
-    );
+    for (bytes, wanted) in rows {
+        let len = bytes.len();
+        assert!(rt; len < 100);
+        assert_eq!(rt; sizes_box(bytes), wanted, "of {len} bytes");
+    }
+    Ok(())
+}
+
+// The first and the second track of a body that stands at 1000, and how many there are.
+fn tracks(bytes: &[u8]) -> Result<(Option<BoxHead>, Option<BoxHead>, usize), Bad>
+    requires { length bytes.now < 2 ^ 32 }
+{
+    check_boxes(bytes, 1000)?;
+    let count = child_count(bytes, 1000, *b"trak");
+    let first = first_child(bytes, 1000, *b"trak");
+    let second = match next_child(bytes, 0, 1000, *b"trak") {
+        Some(child) => next_child(bytes, child.place + child.len, 1000, *b"trak"),
+        None => None,
+    };
+    Ok((first, second, count))
+}
+
+#[test]
+fn children_in_a_row(rt: HostRuntime) -> Result<(), test::Fail> {
+    let track = |place: usize, head: usize, len: usize| {
+        let kind = *b"trak";
+        Some(BoxHead {
+            kind,
+            place,
+            head,
+            len,
+        })
+    };
+    let rows: [(
+        &[u8],
+        Result<(Option<BoxHead>, Option<BoxHead>, usize), Bad>,
+    ); 6] = [
+        (b"", Ok((None, None, 0))),
+        (b"\0\0\0\x08mvhd", Ok((None, None, 0))),
+        (b"\0\0\0\x09trakX", Ok((track(0, 8, 9), None, 1))),
+        (
+            b"\0\0\0\x08mvhd\0\0\0\x09trakX\0\0\0\x08udta\0\0\0\x0AtrakYZ",
+            Ok((track(8, 8, 9), track(25, 8, 10), 2)),
+        ),
+        // a size of 64 bits
+        (
+            b"\0\0\0\x01trak\0\0\0\0\0\0\0\x11X\0\0\0\x08trak\0\0\0\x08trak",
+            Ok((track(0, 16, 17), track(17, 8, 8), 3)),
+        ),
+        (
+            b"\0\0\0\x08trak\0\0\0\x09trak",
+            Err(Bad::at(Code::BoxCut, 1008)),
+        ),
+    ];
+    for (bytes, wanted) in rows {
+        let len = bytes.len();
+        assert!(rt; len < 100);
+        assert_eq!(rt; tracks(bytes), wanted, "of {len} bytes");
+    }
     Ok(())
 }
 
 #[test]
-fn bytes_of_numbers(rt: HostRuntime) {
-    assert_eq!(rt; u16_bytes(0xFE01), [0xFE, 1]);
-    assert_eq!(rt; u32_bytes(0xFE01_0203), [0xFE, 1, 2, 3]);
-    assert_eq!(rt;
-        u64_bytes(0xFE01_0203_0405_0607),
-        [0xFE, 1, 2, 3, 4, 5, 6, 7]
-    );
-}
-
-#[test]
-fn appended_fields(rt: HostRuntime) -> Result<(), test::Fail> {
-    let mut out = Vec::from_slice(rt.alloc(), b"ab")?;
-    append_fields(&mut out, &[])?;
-    assert_eq!(rt; out.as_slice(), b"ab".as_slice());
-    let fields = [
-        Field::version_and_flags(true, 0x0A_0B0C),
-        Field::U16(0x0102),
-        Field::U32(0x0304_0506),
-        Field::U64(0x0708_090A_0B0C_0D0E),
-        Field::time(false, 15),
-        Field::time(true, 16),
-        Field::Bytes(b"cd"),
+fn counted_boxes(rt: HostRuntime) -> Result<(), test::Fail> {
+    let short = Err(Bad::at(Code::TableLength, PLACE));
+    // the number that is said, and the least length of a body
+    let rows: [(&[u8], u32, usize, Result<(), Bad>); 12] = [
+        (b"", 0, 4, Ok(())),
+        (b"", 1, 4, short),
+        (b"\0\0\0\x0Curl abcd", 0, 4, short),
+        (b"\0\0\0\x0Curl abcd", 1, 4, Ok(())),
+        (b"\0\0\0\x0Curl abcd", 2, 4, short),
+        (b"\0\0\0\x0Curl abcd", 4_294_967_295, 4, short),
+        // a body of one byte less, and one of three bytes between others
+        (b"\0\0\0\x0Curl abcd", 1, 5, short),
+        (
+            b"\0\0\0\x0Curl abcd\0\0\0\x0Burl abc\0\0\0\x0Durn abcde",
+            3,
+            4,
+            short,
+        ),
+        (
+            b"\0\0\0\x0Curl abcd\0\0\0\x0Burl abc\0\0\0\x0Durn abcde",
+            3,
+            3,
+            Ok(()),
+        ),
+        // the header is longer, and no part of the body
+        (b"\0\0\0\x01url \0\0\0\0\0\0\0\x13abc", 1, 4, short),
+        // the boxes are asked first
+        (
+            b"\0\0\0\x0Curl abcd\0\0\0\x0Curn abc",
+            1,
+            4,
+            Err(Bad::at(Code::BoxCut, 1012)),
+        ),
+        (
+            b"\0\0\0\x0Burl abc\0\0\0\x07urn ",
+            2,
+            4,
+            Err(Bad::at(Code::BoxSize, 1011)),
+        ),
     ];
-    append_fields(&mut out, &fields)?;
-    assert_eq!(rt;
-        out.as_slice(),
-        b"ab\x01\x0A\x0B\x0C\x01\x02\x03\x04\x05\x06\x07\x08\x09\x0A\x0B\x0C\x0D\x0E\0\0\0\x0F\0\0\0\0\0\0\0\x10cd".as_slice()
-    );
+    for (bytes, count, least, wanted) in rows {
+        let len = bytes.len();
+        assert_eq!(rt;
+            check_counted(bytes, 1000, count, least, PLACE),
+            wanted,
+            "{count} in {len} bytes"
+        );
+    }
     Ok(())
 }
 

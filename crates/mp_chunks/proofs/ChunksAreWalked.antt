@@ -36,7 +36,7 @@ chunk_sample t chunk i size from is_chunk order le lt es ef = is_chunk.placed or
 
 -- ---- samples that were placed
 
-pub none_placed : (t : Tables) (file_size : ℕ) (places : PlacesRecord) → places ≡ columns_of [] → HasPlaced t file_size 0 places
+none_placed : (t : Tables) (file_size : ℕ) (places : PlacesRecord) → places ≡ columns_of [] → HasPlaced t file_size 0 places
 none_placed t file_size places e = record {
   sizes = ap (λ (p : PlacesRecord). length p.sizes) e;
   kinds = ap (λ (p : PlacesRecord). length p.kinds) e;

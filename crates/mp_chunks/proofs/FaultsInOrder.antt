@@ -4,10 +4,10 @@ use Rattle.std.specs.Prelude.{nat_lt, ◌&&◌, ◌==◌}
 use Rattle.std.specs.List.{list_any}
 use Rattle.std.proofs.lemmas.List.{take_all}
 use Rattle.mp_ports.specs.declared.code.Code.{Code}
-use Rattle.mp_ports.specs.declared.code.Code.TheVariants.{ChunkMap, SampleOutside}
+use Rattle.mp_ports.specs.declared.code.Code.TheVariants.{ChunkMap}
 use Rattle.mp_ports.specs.declared.fault.Bad.{Bad}
 use Rattle.mp_columns.specs.declared.columns.TheConstants.{MOST_ITEMS}
-use Rattle.mp_ports.specs.Answer.{bad_at, first_code, placed, unless}
+use Rattle.mp_ports.specs.Checks.{bad_at, first_code, placed, unless}
 use Rattle.mp_boxes.specs.FullBox.{HasRows, row_count, table_fault}
 use Rattle.mp_chunks.specs.declared.chunks.ChunkRun.{ChunkRun}
 use Rattle.mp_chunks.specs.declared.tables.Tables.{Tables}
@@ -16,7 +16,7 @@ use Rattle.mp_chunks.specs.declared.walk.Walk.{Walk}
 use Rattle.mp_chunks.specs.Sizes.{sample_count, size_checks}
 use Rattle.mp_chunks.specs.Chunks.{offset_len, run_len, runs_fault, runs_of_chunks}
 use Rattle.mp_chunks.specs.Places.{counts_of, no_sample, is_outside}
-use Rattle.mp_chunks.specs.Answer.{AreWithin, PlacesRecord, chunks, columns_of, count_from, map_fault, offsets, offsets_body, places_from, runs, samples, sizes, sizes_body, stsc_body}
+use Rattle.mp_chunks.specs.Answer.{AreWithin, PlacesRecord, chunks, columns_of, count_from, map_fault, offsets, offsets_body, placed_from, runs, samples, sizes, sizes_body, stsc_body}
 use Rattle.mp_chunks.specs.Walk.{AreRead, IsDone, lacks_runs}
 use Rattle.mp_chunks.proofs.TablesAreRead.{offsets_len, stsc_len}
 use Rattle.mp_chunks.proofs.MapFaults.{count_fault, no_fault, no_run_fault}
@@ -25,7 +25,7 @@ use Rattle.mp_chunks.proofs.SamplesArePlaced.{any_none, samples_len, sizes_len}
 use Rattle.mp_chunks.proofs.ChunksAreWalked.{none_outside, one_outside}
 
 -- what was read without a fault
-pub was_read : {A : Type 0} (place : ℕ) (fault : Option Code) (value found : A) → Ok found ≡ placed place (unless fault value) → (fault ≡ None) × (value ≡ found)
+was_read : {A : Type 0} (place : ℕ) (fault : Option Code) (value found : A) → Ok found ≡ placed place (unless fault value) → (fault ≡ None) × (value ≡ found)
 was_read place None value found h = (refl, cc)
 was_read place (Some code) value found h = absurd (no_ok (bad_at code place) found h)
   where
@@ -43,7 +43,7 @@ no_runs_to_check entries runs none = rw none refl
 both_hold : (chunks runs : ℕ) → (nat_lt 0 chunks && (runs == 0)) ≡ true → runs ≡ 0
 both_hold chunks runs h = grind arith
 
-pub no_run_is_first : (t : Tables) (limits : Limits) → AreRead t limits → lacks_runs limits ≡ true → places_from limits.entries limits.file_size t ≡ Err (bad_at ChunkMap t.stsc.place)
+pub no_run_is_first : (t : Tables) (limits : Limits) → AreRead t limits → lacks_runs limits ≡ true → placed_from limits.entries limits.file_size t ≡ Err (bad_at ChunkMap t.stsc.place)
 no_run_is_first t limits read lacks =
     let none = no_runs_to_check limits.entries (runs t) (read.runs ∙ both_hold limits.chunks limits.runs lacks) in
     let fault = no_run_fault (runs t) (length (offsets t)) (length (sizes t)) (lacks_them t limits read ∙ lacks) in
@@ -56,7 +56,7 @@ all_held t limits walk read some done =
     let all : walk.chunks ≡ length (offsets t) = done.walked.ends order ∙ (before_end (runs t) limits.chunks limits.runs (omega (arith, read.runs)) ∙ sym read.chunks) in
     done.walked.walked.held order ∙ ap (λ (n : ℕ). sum (counts_of (runs_of_chunks (runs t) n))) all
 
-pub map_fault_is_first : (t : Tables) (limits : Limits) (walk : Walk) → AreRead t limits → lacks_runs limits ≡ false → IsDone t limits walk → (walk.held ≡ limits.samples → ⊥) → places_from limits.entries limits.file_size t ≡ Err (bad_at ChunkMap t.stsc.place)
+pub map_fault_is_first : (t : Tables) (limits : Limits) (walk : Walk) → AreRead t limits → lacks_runs limits ≡ false → IsDone t limits walk → (walk.held ≡ limits.samples → ⊥) → placed_from limits.entries limits.file_size t ≡ Err (bad_at ChunkMap t.stsc.place)
 map_fault_is_first t limits walk read some done differs =
     let fault = count_fault (runs t) (length (offsets t)) (length (sizes t)) (lacks_them t limits read ∙ some) (λ same. differs (all_held t limits walk read some done ∙ (same ∙ read.samples))) in
     rw (read.stsc_table, read.offsets_table, done.no_fault, fault) refl
@@ -65,19 +65,19 @@ no_map_fault : (t : Tables) (limits : Limits) (walk : Walk) → AreRead t limits
 no_map_fault t limits walk read some done same =
     no_fault (runs t) (length (offsets t)) (length (sizes t)) (lacks_them t limits read ∙ some) (sym (all_held t limits walk read some done) ∙ (same ∙ sym read.samples))
 
-pub outside_fault_is_first : (t : Tables) (limits : Limits) (walk : Walk) → AreRead t limits → lacks_runs limits ≡ false → IsDone t limits walk → walk.held ≡ limits.samples → walk.outside ≡ true → places_from limits.entries limits.file_size t ≡ Err (bad_at SampleOutside t.offsets.place)
-outside_fault_is_first t limits walk read some done same outside =
+pub one_is_outside : (t : Tables) (limits : Limits) (walk : Walk) → AreRead t limits → lacks_runs limits ≡ false → IsDone t limits walk → walk.held ≡ limits.samples → walk.outside ≡ true → placed_from limits.entries limits.file_size t ≡ Ok None
+one_is_outside t limits walk read some done same outside =
     let found = one_outside t limits.file_size walk.held walk.outside walk.places outside (done.walked.walked.placed (omega (arith, same))) (in_order limits.entries (runs t) done.no_fault) in
     rw (read.stsc_table, read.offsets_table, done.no_fault, no_map_fault t limits walk read some done same, found) refl
 
-pub all_are_placed : (t : Tables) (limits : Limits) (walk : Walk) → AreRead t limits → lacks_runs limits ≡ false → IsDone t limits walk → walk.held ≡ limits.samples → walk.outside ≡ false → places_from limits.entries limits.file_size t ≡ Ok walk.places
+pub all_are_placed : (t : Tables) (limits : Limits) (walk : Walk) → AreRead t limits → lacks_runs limits ≡ false → IsDone t limits walk → walk.held ≡ limits.samples → walk.outside ≡ false → placed_from limits.entries limits.file_size t ≡ Ok (Some walk.places)
 all_are_placed t limits walk read some done same inside =
     let placed = none_outside t limits.file_size walk.held walk.outside walk.places inside (done.walked.walked.placed (omega (arith, same))) in
     let these = placed.placed (in_order limits.entries (runs t) done.no_fault) in
     let len : length (samples t) ≡ walk.held = omega (arith, samples_len (chunks t) (offsets t) (sizes t), same, read.samples) in
     let within : list_any (is_outside limits.file_size) (samples t) ≡ false = any_none (is_outside limits.file_size) (samples t) no_sample (λ k lt. these.inside k (omega (arith, len))) in
     let whole : walk.places ≡ columns_of (samples t) = these.columns ∙ ap columns_of (take_all walk.held (samples t) (omega (arith, len))) in
-    rw (read.stsc_table, read.offsets_table, done.no_fault, no_map_fault t limits walk read some done same, within) (ap (λ (p : PlacesRecord). Ok p) (sym whole))
+    rw (read.stsc_table, read.offsets_table, done.no_fault, no_map_fault t limits walk read some done same, within) (ap (λ (p : PlacesRecord). Ok (Some p)) (sym whole))
 
 -- ---- the tables on their own
 

@@ -2,7 +2,7 @@
 use Rattle.std.proofs.Common.{◌≡◌, ℕ, zero, suc, ◌+◌, ◌-◌, ◌<◌, ◌≤◌, List, ◌∷◌, map, Option, Some, None, refl, sym, ap, ◌∙◌, arith, inl, inr}
 use Rattle.std.proofs.lemmas.Bool.{cases_lt}
 use Rattle.std.specs.List.{range_with_len}
-use Rattle.mp_ports.specs.Answer.{first_some}
+use Rattle.mp_ports.specs.Checks.{first_some}
 
 -- the first fault of the rows from `j` on, of `n`
 abbrev pub faults_from : {A : Type 0} → (ℕ → Option A) → ℕ → ℕ → Option A

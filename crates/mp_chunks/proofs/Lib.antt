@@ -6,3 +6,12 @@ pub mod SamplesArePlaced
 pub mod MapFaults
 pub mod ChunksAreWalked
 pub mod FaultsInOrder
+pub mod RowsAreWritten
+pub mod WrittenSizes
+pub mod RunsAreReadBack
+pub mod PlacesAreReadBack
+pub mod NoFaultIsWritten
+pub mod PlacesAreSkipped
+pub mod RowsArePushed
+pub mod RunsArePushed
+pub mod SizesArePushed

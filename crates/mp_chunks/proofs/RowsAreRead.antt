@@ -4,7 +4,7 @@ use Rattle.std.proofs.lemmas.List.{drop-drop, get_or-take, get_or-drop, get_or-m
 use Rattle.mp_boxes.specs.Number.{u16_at, u32_at, u64_at}
 use Rattle.mp_boxes.specs.FullBox.{rows_of}
 
-pub length-rows_of : (n w : ℕ) (bytes : List ℕ) → length (rows_of n w bytes) ≡ n
+length-rows_of : (n w : ℕ) (bytes : List ℕ) → length (rows_of n w bytes) ≡ n
 unfolding rows_of
 length-rows_of zero w bytes = refl
 length-rows_of (suc n) w bytes = ap suc (length-rows_of n w (drop w bytes))

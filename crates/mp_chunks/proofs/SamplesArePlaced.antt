@@ -6,7 +6,7 @@ use Rattle.std.proofs.lemmas.Bool.{cases_lt, le-leb, lt-leb}
 use Rattle.std.proofs.lemmas.List.{take-map, take-take, take_more, map-append, length-map, length-take, length-drop, length-replicate}
 use Rattle.std.proofs.lemmas.List.FromFn.{take-map-range_with_len, get_or-map-range_with_len, length-map-range_with_len}
 use Rattle.std.proofs.lemmas.List.Sums.{sum_by-take-le, sum_by-take-drop, sum_by_more}
-use Rattle.mp_ports.specs.Answer.{first_code}
+use Rattle.mp_ports.specs.Checks.{first_code}
 use Rattle.mp_chunks.specs.declared.chunks.ChunkRun.{ChunkRun}
 use Rattle.mp_chunks.specs.Sizes.{sample_count, common_size, field_bits, halves, stsz_of, stz2_of, sizes_of, size_checks, stz2_checks}
 use Rattle.mp_chunks.specs.Chunks.{no_run, or_no_run, run_at, run_of_chunk, runs_of_chunks}

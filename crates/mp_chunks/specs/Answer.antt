@@ -1,10 +1,10 @@
 -- What is read from a track's tables of sizes, chunks and places, and their faults in order.
-use Rattle.std.specs.Prelude.{ℕ, Bool, ◌==◌, ◌&&◌, not, nat_lt, List, [], ◌∷◌, length, map, sum, Option, Result, ℤ, pos}
+use Rattle.std.specs.Prelude.{ℕ, Bool, ◌==◌, ◌&&◌, not, nat_lt, List, [], ◌∷◌, length, map, sum, Option, Some, None, Result, ℤ, pos, if◌then◌else◌}
 use Rattle.std.specs.List.{list_any}
 use Rattle.mp_ports.specs.declared.code.Code.{Code}
 use Rattle.mp_ports.specs.declared.code.Code.TheVariants.{ChunkMap, SampleOutside}
 use Rattle.mp_ports.specs.declared.fault.Bad.{Bad}
-use Rattle.mp_ports.specs.Answer.{fault_at, first_code, first_some, placed, unless}
+use Rattle.mp_ports.specs.Checks.{fault_at, first_code, first_some, placed, unless}
 use Rattle.mp_boxes.specs.Child.{IsWithin}
 use Rattle.mp_chunks.specs.declared.chunks.ChunkRun.{ChunkRun}
 use Rattle.mp_chunks.specs.declared.tables.Tables.{Tables}
@@ -84,18 +84,28 @@ map_fault runs chunks samples =
 abbrev pub outside_fault : ℕ → List SamplePlace → Option Code
 outside_fault file_size samples = first_code ((list_any (is_outside file_size) samples, SampleOutside) ∷ [])
 
--- the first fault of the chunks and places, where there are so many entries and the file has so many bytes, and these are the places of
--- `stsc` and of the other
-abbrev pub bodies_fault : ℕ → ℕ → ℕ → ℕ → Bodies → Option Bad
-bodies_fault entries file_size stsc_place offsets_place bodies =
+-- the first fault of the tables of chunks, `stsc` and then the other, and of the map that they give
+abbrev pub chunks_fault_of : ℕ → ℕ → ℕ → Bodies → Option Bad
+chunks_fault_of entries stsc_place offsets_place bodies =
     let runs = stsc_of bodies.stsc in
     first_some
     (fault_at stsc_place (table_fault 0 run_len bodies.stsc)
     ∷ fault_at offsets_place (table_fault 0 (offset_len bodies.wide) bodies.offsets)
     ∷ fault_at stsc_place (runs_fault entries runs)
     ∷ fault_at stsc_place (map_fault runs (length (offsets_of bodies.wide bodies.offsets)) (length (sizes_of bodies.compact bodies.sizes)))
+    ∷ [])
+
+-- the first fault of the chunks and places, where there are so many entries and the file has so many bytes, and these are the places of
+-- `stsc` and of the other
+abbrev pub bodies_fault : ℕ → ℕ → ℕ → ℕ → Bodies → Option Bad
+bodies_fault entries file_size stsc_place offsets_place bodies =
+    first_some
+    (chunks_fault_of entries stsc_place offsets_place bodies
     ∷ fault_at offsets_place (outside_fault file_size (samples_by bodies))
     ∷ [])
+
+abbrev pub chunks_fault : ℕ → Tables → Option Bad
+chunks_fault entries tables = chunks_fault_of entries tables.stsc.place tables.offsets.place (bodies_of tables)
 
 abbrev pub places_fault : ℕ → ℕ → Tables → Option Bad
 places_fault entries file_size tables = bodies_fault entries file_size tables.stsc.place tables.offsets.place (bodies_of tables)
@@ -117,3 +127,11 @@ columns_of samples = record {
 -- the samples, or the first fault
 abbrev pub places_from : ℕ → ℕ → Tables → Result PlacesRecord Bad
 places_from entries file_size tables = unless (places_fault entries file_size tables) (columns_of (samples tables))
+
+-- the samples, where each ends in the file
+abbrev pub places_within : ℕ → Tables → Option PlacesRecord
+places_within file_size tables = if list_any (is_outside file_size) (samples tables) then None else Some (columns_of (samples tables))
+
+-- these, or the first fault of the chunks
+abbrev pub placed_from : ℕ → ℕ → Tables → Result (Option PlacesRecord) Bad
+placed_from entries file_size tables = unless (chunks_fault entries tables) (places_within file_size tables)

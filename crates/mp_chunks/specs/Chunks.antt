@@ -3,7 +3,7 @@ use Rattle.std.specs.Prelude.{ℕ, zero, suc, Bool, ◌==◌, not, nat_le, nat_l
 use Rattle.std.specs.List.{last_or, range_with_len}
 use Rattle.mp_ports.specs.declared.code.Code.{Code}
 use Rattle.mp_ports.specs.declared.code.Code.TheVariants.{ChunkMap, EntryIndex}
-use Rattle.mp_ports.specs.Answer.{first_code, first_some}
+use Rattle.mp_ports.specs.Checks.{first_code, first_some}
 use Rattle.mp_boxes.specs.Number.{u32_at, u64_at}
 use Rattle.mp_chunks.specs.declared.chunks.ChunkRun.{ChunkRun}
 use Rattle.mp_boxes.specs.FullBox.{table_rows}

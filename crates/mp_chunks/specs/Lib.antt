@@ -4,3 +4,4 @@ pub mod Chunks
 pub mod Places
 pub mod Answer
 pub mod Walk
+pub mod Written

@@ -4,7 +4,7 @@ use Rattle.std.specs.List.{list_any}
 use Rattle.mp_columns.specs.declared.columns.TheConstants.{MOST_ITEMS}
 use Rattle.mp_ports.specs.declared.fault.Fail.{Fail}
 use Rattle.mp_ports.specs.declared.fault.Fail.TheVariants.{Bad as Refused, NoMemory}
-use Rattle.mp_ports.specs.Answer.{fault_at, first_code}
+use Rattle.mp_ports.specs.Checks.{fault_at, first_code}
 use Rattle.mp_boxes.specs.FullBox.{HasRows, table_fault}
 use Rattle.mp_chunks.specs.declared.chunks.ChunkRun.{ChunkRun}
 use Rattle.mp_chunks.specs.declared.tables.Tables.{Tables}

@@ -1,4 +1,5 @@
-// Chunks: where each begins, and the runs of `stsc` that say what it holds.
+//! Chunks: where each begins, and the runs of `stsc` that say what it holds.
+
 ghost use Rattle.std.specs.Prelude.{◌≡◌, ◌<◌, slice_index};
 ghost use Rattle.mp_boxes.specs.FullBox.{HasRows, row_count};
 ghost use Rattle.mp_chunks.specs.Chunks.{begins, offset_len, offsets_of, run_at, run_fault, run_len, stsc_of};

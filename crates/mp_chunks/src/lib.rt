@@ -5,16 +5,27 @@
 //! place is read from them, going over each table once, and no list of offsets, chunks or runs is made. A
 //! table that is too short, an unknown version, a map that doesn't give each sample its chunk, an unknown
 //! entry and a sample behind the end of the file are refused.
+//!
+//! The boxes of any chunks are written too, each behind a length that is known before its bytes, and what is
+//! written is read back.
 #![tactic(auto)]
 
 mod chunks;
+mod law;
 mod places;
+mod push;
+#[cfg(test)]
+mod push_tests;
 mod sizes;
 mod tables;
 #[cfg(test)]
 mod tests;
 mod walk;
 
-pub use places::{Places, read_places};
+pub use law::{places_are_read, places_change_no_length};
+pub use places::{Places, find_places, read_places};
+pub use push::{
+    ChunkHead, chunk_offsets_len, push_chunk_offsets, push_stsc, push_stsz, stsc_len, stsz_len,
+};
 pub use sizes::sample_count;
 pub use tables::Tables;

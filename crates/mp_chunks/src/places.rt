@@ -1,7 +1,8 @@
-// The places of samples, chunk by chunk.
-ghost use Rattle.std.specs.Prelude.{◌≡◌, ℕ, ◌+◌, ◌<◌, ◌≤◌, ◌++◌, [], ◌∷◌, length, pos, nat_lt, IfErr, IfOk, OnOk, Err, Ok};
-ghost use Rattle.mp_ports.specs.Answer.{Gives};
-ghost use Rattle.mp_chunks.specs.Answer.{AreWithin, columns_of, count_from, places_from};
+//! The places of samples, chunk by chunk.
+
+ghost use Rattle.std.specs.Prelude.{◌≡◌, ℕ, ◌+◌, ◌<◌, ◌≤◌, ◌++◌, [], ◌∷◌, length, pos, nat_lt, IfErr, IfOk, OnOk, None, Ok, Some};
+ghost use Rattle.mp_ports.specs.Gives.{Gives, refusal};
+ghost use Rattle.mp_chunks.specs.Answer.{AreWithin, chunks_fault, columns_of, count_from, placed_from, places_from};
 ghost use Rattle.mp_chunks.specs.Walk.{AreRead, HasPlaced, IsChunk, PlacesOrOutside};
 
 use crate::chunks::{RUN_LEN, offset_len};
@@ -9,7 +10,7 @@ use crate::sizes::{sample_count, size_in};
 use crate::tables::Tables;
 use crate::walk::{Limits, place_samples};
 use mp_boxes::row_count;
-use mp_columns::{Column, ListColumn, MOST_ITEMS};
+use mp_columns::{Col, Column, MOST_ITEMS};
 use mp_ports::{Bad, Code, Fail, NoMemory};
 use std::alloc::Global;
 use std::marker::Model;
@@ -18,9 +19,9 @@ use std::marker::Model;
 #[derive(Drop)]
 pub struct Places {
     /// How long each sample is, in bytes.
-    pub sizes: ListColumn,
+    pub sizes: Col,
     /// The number of its entry in `stsd`, counted from 1.
-    pub kinds: ListColumn,
+    pub kinds: Col,
     /// Where it begins in the file.
     pub from: Vec<u64>,
 }
@@ -55,8 +56,8 @@ impl Places {
         ensures { result ≡ columns_of [] }
     {
         Places {
-            sizes: ListColumn::new(alloc),
-            kinds: ListColumn::new(alloc),
+            sizes: Col::new(alloc),
+            kinds: Col::new(alloc),
             from: Vec::new(alloc),
         }
     }
@@ -65,7 +66,11 @@ impl Places {
     fn push(&mut self, size: u32, kind: u32, from: u64) -> Result<(), NoMemory>
         requires sizes { length self.old.sizes + 1 ≤ MOST_ITEMS }
         requires kinds { length self.old.kinds + 1 ≤ MOST_ITEMS }
-        ensures { OnOk result (self.new ≡ record { sizes = self.old.sizes ++ pos size ∷ []; kinds = self.old.kinds ++ pos kind ∷ []; from = self.old.from ++ from ∷ [] }) }
+        ensures { OnOk result (self.new ≡ record {
+          sizes = self.old.sizes ++ pos size ∷ [];
+          kinds = self.old.kinds ++ pos kind ∷ [];
+          from = self.old.from ++ from ∷ [];
+        }) }
     {
         self.sizes.push(i64::from(size))?;
         self.kinds.push(i64::from(kind))?;
@@ -84,7 +89,8 @@ impl Places {
         requires read { AreRead tables.now limits }
         requires chunk { IsChunk tables.now chunk }
         requires placed { HasPlaced tables.now limits.file_size chunk.first self.old }
-        ensures { IfOk result (λ outside. PlacesOrOutside tables.now limits.file_size (chunk.first + chunk.count) outside self.new) }
+        ensures { IfOk result (λ outside.
+            PlacesOrOutside tables.now limits.file_size (chunk.first + chunk.count) outside self.new) }
     {
         let sizes = tables.body(tables.sizes);
         let mut from = chunk.from;
@@ -106,7 +112,7 @@ fn read_limits(tables: &Tables<'_>, entries: u32, file_size: u64) -> Result<Limi
     requires counted { (n : ℕ) × (count_from tables.now ≡ Ok n) × (n ≤ MOST_ITEMS) }
     ensures read { IfOk result (λ limits. AreRead tables.now limits) }
     ensures given { IfOk result (λ limits. (limits.entries ≡ entries) × (limits.file_size ≡ file_size)) }
-    ensures fault { IfErr result (λ bad. places_from entries file_size tables.now ≡ Err bad) }
+    ensures fault { IfErr result (λ bad. chunks_fault entries tables.now ≡ Some bad) }
 {
     let stsc = tables.body(tables.stsc);
     let offsets = tables.body(tables.offsets);
@@ -120,6 +126,22 @@ fn read_limits(tables: &Tables<'_>, entries: u32, file_size: u64) -> Result<Limi
         samples,
         file_size,
     })
+}
+
+/// What `read_places` answers, but for its last check: `None` where a sample ends behind the end of the file.
+pub fn find_places(
+    alloc: Global,
+    tables: &Tables<'_>,
+    entries: u32,
+    file_size: u64,
+) -> Result<Option<Places>, Fail>
+    requires within { AreWithin tables.now }
+    requires counted { (n : ℕ) × (count_from tables.now ≡ Ok n) × (n ≤ MOST_ITEMS) }
+    ensures found { Gives refusal (λ places. places) result (placed_from entries file_size tables.now) }
+    ensures mapped { OnOk result (chunks_fault entries tables.now ≡ None) }
+{
+    let limits = read_limits(tables, entries, file_size)?;
+    place_samples(alloc, tables, limits)
 }
 
 /// The size, the number of the entry and the place of each sample, by the tables of a track with so many
@@ -139,8 +161,10 @@ pub fn read_places(
 ) -> Result<Places, Fail>
     requires within { AreWithin tables.now }
     requires counted { (n : ℕ) × (count_from tables.now ≡ Ok n) × (n ≤ MOST_ITEMS) }
-    ensures { Gives (λ places. places) result (places_from entries file_size tables.now) }
+    ensures { Gives refusal (λ places. places) result (places_from entries file_size tables.now) }
 {
-    let limits = read_limits(tables, entries, file_size)?;
-    place_samples(alloc, tables, limits)
+    match find_places(alloc, tables, entries, file_size)? {
+        Some(places) => Ok(places),
+        None => Err(Fail::Bad(Bad::at(Code::SampleOutside, tables.offsets.place))),
+    }
 }

@@ -1,6 +1,7 @@
-// How long each sample is.
+//! How long each sample is.
+
 ghost use Rattle.std.specs.Prelude.{◌≡◌, ◌+◌, ◌/◌, ◌<◌, ◌≤◌, drop, length, slice_index, None};
-ghost use Rattle.mp_ports.specs.Answer.{first_code, unless, placed};
+ghost use Rattle.mp_ports.specs.Checks.{first_code, unless, placed};
 ghost use Rattle.mp_boxes.specs.Child.{IsWithin};
 ghost use Rattle.mp_chunks.specs.Answer.{count_from};
 ghost use Rattle.mp_chunks.specs.Sizes.{halves, sample_count as count_of_samples, stsz_of, stz2_of, stsz_checks, stz2_checks, size_checks, sizes_of};
@@ -28,13 +29,13 @@ pub fn sample_count(tables: &Tables<'_>) -> Result<u64, Bad>
     let body = tables.body(tables.sizes);
     let place = tables.sizes.place;
     if tables.compact {
-        compact_count(body, place)
+        stz2_count(body, place)
     } else {
-        plain_count(body, place)
+        stsz_count(body, place)
     }
 }
 
-fn plain_count(body: &[u8], place: u64) -> Result<u64, Bad>
+fn stsz_count(body: &[u8], place: u64) -> Result<u64, Bad>
     ensures { result ≡ placed place (unless (first_code (stsz_checks body.now)) (count_of_samples body.now)) }
 {
     check_full_box(body, 0, SIZES_AT, place)?;
@@ -45,7 +46,7 @@ fn plain_count(body: &[u8], place: u64) -> Result<u64, Bad>
     Ok(count)
 }
 
-fn compact_count(body: &[u8], place: u64) -> Result<u64, Bad>
+fn stz2_count(body: &[u8], place: u64) -> Result<u64, Bad>
     ensures { result ≡ placed place (unless (first_code (stz2_checks body.now)) (count_of_samples body.now)) }
 {
     check_full_box(body, 0, SIZES_AT, place)?;
@@ -67,13 +68,13 @@ pub(crate) fn size_in(body: &[u8], compact: bool, before: u32) -> u32
     ensures { result ≡ slice_index (sizes_of compact body.now) before }
 {
     if compact {
-        compact_size(body, before as usize)
+        stz2_size(body, before as usize)
     } else {
-        plain_size(body, before as usize)
+        stsz_size(body, before as usize)
     }
 }
 
-fn plain_size(body: &[u8], before: usize) -> u32
+fn stsz_size(body: &[u8], before: usize) -> u32
     requires whole { first_code (stsz_checks body.now) ≡ None }
     requires inside { before < count_of_samples body.now }
     ensures { result ≡ slice_index (stsz_of body.now) before }
@@ -86,7 +87,7 @@ fn plain_size(body: &[u8], before: usize) -> u32
     }
 }
 
-fn compact_size(body: &[u8], before: usize) -> u32
+fn stz2_size(body: &[u8], before: usize) -> u32
     requires whole { first_code (stz2_checks body.now) ≡ None }
     requires inside { before < count_of_samples body.now }
     ensures { result ≡ slice_index (stz2_of body.now) before }

@@ -1,4 +1,5 @@
-// Where the tables of a track are.
+//! Where the tables of a track are.
+
 ghost use Rattle.std.specs.Prelude.{◌≡◌};
 ghost use Rattle.mp_boxes.specs.Child.{IsWithin};
 ghost use Rattle.mp_chunks.specs.Table.{body_of};

@@ -1,7 +1,8 @@
 //! Tables of sizes, chunks and places, each answer computed by hand from ISO/IEC 14496-12, 8.7.3 to 8.7.5.
+
 ghost use Rattle.mp_chunks.specs.Answer.{AreWithin};
 
-use crate::{Places, Tables, read_places, sample_count};
+use crate::{Places, Tables, find_places, read_places, sample_count};
 use mp_boxes::Span;
 use mp_columns::{Column, MOST_ITEMS};
 use mp_ports::{Bad, Code, Fail};
@@ -65,6 +66,17 @@ fn read(alloc: Global, tables: &Tables<'_>, case: Case<'_>) -> Result<Places, Fa
     read_places(alloc, tables, case.entries, case.file_size)
 }
 
+// Whether all is found but for the last check: a sample ends behind the end of the file.
+fn is_outside(alloc: Global, tables: &Tables<'_>, case: Case<'_>) -> Result<bool, Fail>
+    requires { AreWithin tables.now }
+{
+    let count = sample_count(tables)?;
+    if count > u64::from(MOST_ITEMS) {
+        return Err(Fail::NoMemory);
+    }
+    Ok(find_places(alloc, tables, case.entries, case.file_size)?.is_none())
+}
+
 fn check(
     rt: &impl Abort,
     alloc: Global,
@@ -99,6 +111,9 @@ fn check(
         },
         wide: case.wide,
     };
+    let outside = matches!(is_outside(alloc, &tables, case), Ok(true));
+    let wanted_outside = matches!(wanted, Err(bad) if bad.code == Code::SampleOutside);
+    assert_eq!(rt; outside, wanted_outside, "row {row}");
     match (read(alloc, &tables, case), wanted) {
         (Ok(places), Ok(samples)) => check_samples(rt, row, &places, samples),
         (Err(Fail::Bad(found)), Err(fault)) => assert_eq!(rt; found, fault, "row {row}"),

@@ -1,7 +1,8 @@
-// A walk over the runs of `stsc` and the chunks of each, which places the samples.
+//! A walk over the runs of `stsc` and the chunks of each, which places the samples.
+
 ghost use Rattle.std.specs.Prelude.{◌≡◌, false, [], ℕ, ◌+◌, ◌<◌, length, OnOk};
-ghost use Rattle.mp_ports.specs.Answer.{Gives};
-ghost use Rattle.mp_chunks.specs.Answer.{columns_of, places_from, runs};
+ghost use Rattle.mp_ports.specs.Gives.{Gives, refusal};
+ghost use Rattle.mp_chunks.specs.Answer.{columns_of, placed_from, runs};
 ghost use Rattle.mp_chunks.specs.Chunks.{or_no_run, run_of_chunk};
 ghost use Rattle.mp_chunks.specs.Walk.{AreInOrder, AreRead, HasWalked, IsDone, IsWalked, Walks, lacks_runs};
 
@@ -69,7 +70,8 @@ impl Walk {
         requires read { AreRead tables.now limits }
         requires more { self.old.chunks < limits.chunks }
         requires walked { IsWalked tables.now limits self.old }
-        requires run { AreInOrder (runs tables.now) → or_no_run (run_of_chunk (runs tables.now) (self.old.chunks + 1)) ≡ run }
+        requires run { AreInOrder (runs tables.now)
+            → or_no_run (run_of_chunk (runs tables.now) (self.old.chunks + 1)) ≡ run }
         ensures next { OnOk result (self.new.chunks ≡ self.old.chunks + 1) }
         ensures walked { OnOk result (IsWalked tables.now limits self.new) }
     {
@@ -128,19 +130,19 @@ impl Walk {
     }
 
     /// What the walk over all runs has placed, where the chunks hold exactly the samples and none is outside.
-    fn finish(self, tables: &Tables<'_>, limits: Limits) -> Result<Places, Fail>
+    fn finish(self, tables: &Tables<'_>, limits: Limits) -> Result<Option<Places>, Fail>
         requires read { AreRead tables.now limits }
         requires some { lacks_runs limits ≡ false }
         requires done { IsDone tables.now limits self }
-        ensures { Gives (λ places. places) result (places_from limits.entries limits.file_size tables.now) }
+        ensures { Gives refusal (λ places. places) result (placed_from limits.entries limits.file_size tables.now) }
     {
         if self.held != limits.samples {
             return Err(Fail::Bad(Bad::at(Code::ChunkMap, tables.stsc.place)));
         }
         if self.outside {
-            return Err(Fail::Bad(Bad::at(Code::SampleOutside, tables.offsets.place)));
+            return Ok(None);
         }
-        Ok(self.places)
+        Ok(Some(self.places))
     }
 }
 
@@ -149,9 +151,9 @@ pub(crate) fn place_samples(
     alloc: Global,
     tables: &Tables<'_>,
     limits: Limits,
-) -> Result<Places, Fail>
+) -> Result<Option<Places>, Fail>
     requires { AreRead tables.now limits }
-    ensures { Gives (λ places. places) result (places_from limits.entries limits.file_size tables.now) }
+    ensures { Gives refusal (λ places. places) result (placed_from limits.entries limits.file_size tables.now) }
 {
     if limits.lacks_runs() {
         return Err(Fail::Bad(Bad::at(Code::ChunkMap, tables.stsc.place)));

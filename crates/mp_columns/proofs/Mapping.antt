@@ -1,5 +1,5 @@
 -- A walk that replaces each item by a function of it.
-use Rattle.std.proofs.Common.{◌≡◌, ℕ, suc, ◌+◌, ◌<◌, ◌≤◌, FitsSigned, w64, to_z, of_z, List, [], ◌∷◌, ◌++◌, length, take, drop, map, get_or, set, All, ℤ, pos, ◌*ℤ◌, int_div, int_rem, sym, ap, ◌∙◌, append_assoc, arith, refl}
+use Rattle.std.proofs.Common.{◌≡◌, ℕ, suc, ◌+◌, ◌<◌, ◌≤◌, FitsSigned, w64, to_z, of_z, List, [], ◌∷◌, ◌++◌, length, take, drop, map, get_or, set, All, ℤ, pos, ◌+ℤ◌, ◌*ℤ◌, int_div, int_rem, sym, ap, ◌∙◌, append_assoc, arith, refl}
 use Rattle.std.proofs.lemmas.Int.{quot-rem, quot_is, quot_fits, to_z-of_z, ints}
 use Rattle.std.proofs.lemmas.List.{map_more, drop_more, set_at, length-map, length-take, get_or_at, take_all, drop_all, append-nil}
 
@@ -42,6 +42,10 @@ quotients_times k (x ∷ xs) whole =
 -- the code's product is the product
 pub product_is : (x r : ℤ) (k : ℕ) → r ≡ pos k → FitsSigned w64 x → FitsSigned w64 (pos k) → FitsSigned w64 (x *ℤ pos k) → to_z w64 (of_z w64 (to_z w64 (of_z w64 x) *ℤ to_z w64 (of_z w64 r))) ≡ x *ℤ pos k
 product_is x r k e fits by_fits product_fits = rw (e, to_z-of_z w64 x fits, to_z-of_z w64 (pos k) by_fits, to_z-of_z w64 (x *ℤ pos k) product_fits) refl
+
+-- the code's sum is the sum
+pub sum_is : (x by : ℤ) → FitsSigned w64 x → FitsSigned w64 by → FitsSigned w64 (x +ℤ by) → to_z w64 (of_z w64 (to_z w64 (of_z w64 x) +ℤ to_z w64 (of_z w64 by))) ≡ x +ℤ to_z w64 (of_z w64 by)
+sum_is x by fits by_fits sum_fits = rw (to_z-of_z w64 x fits, to_z-of_z w64 by by_fits, to_z-of_z w64 (x +ℤ by) sum_fits) refl
 
 -- the code's quotient is the quotient
 pub quotient_is : (x r : ℤ) (k : ℕ) → r ≡ pos k → 1 ≤ k → FitsSigned w64 x → FitsSigned w64 (pos k) → to_z w64 (of_z w64 (int_div (to_z w64 (of_z w64 x)) (to_z w64 (of_z w64 r)))) ≡ int_div x (pos k)

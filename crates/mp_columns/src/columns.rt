@@ -1,8 +1,14 @@
-// What a column is, and what each of its calls does to the list.
-ghost use Rattle.std.specs.Prelude.{◌≡◌, ◌+◌, ◌≤◌, ◌<◌, ◌++◌, List, [], ◌∷◌, All, FitsSigned, OnErr, OnOk, length, map, slice_index_or, slice_range, take, ℤ, pos, ◌*ℤ◌, int_div, int_rem};
-ghost use Rattle.std.specs.Int.{w64};
-ghost use Rattle.mp_columns.specs.Numbers.{total, largest};
+//! What a column is, and what each of its calls does to the list.
 
+ghost use Rattle.std.specs.Prelude.{◌≡◌, ◌+◌, ◌≤◌, ◌<◌, ◌++◌, List, [], ◌∷◌, All, FitsSigned, OnErr, OnOk};
+ghost use Rattle.std.specs.Prelude.{length, map, replicate, slice_index_or, slice_range, take, unsigned_abs};
+ghost use Rattle.std.specs.Prelude.{ℤ, pos, ◌+ℤ◌, ◌*ℤ◌, int_div, int_rem};
+ghost use Rattle.std.specs.Int.{w64};
+ghost use Rattle.mp_frac.specs.Divisors.{IsGreatestCommon};
+ghost use Rattle.mp_columns.specs.Numbers.{total, largest};
+ghost use Rattle.mp_columns.specs.Runs.{IsFirstRun, IsNextRun};
+
+use crate::run::{Cursor, Run};
 use mp_ports::NoMemory;
 use std::alloc::Global;
 
@@ -11,8 +17,8 @@ pub const MOST_ITEMS: u32 = 8_388_608;
 
 /// A list of whole numbers, each an `i64`, its items counted from 0.
 ///
-/// Only `push` and `append` take memory, and only for want of it do they answer `Err`. A column is then
-/// as it was.
+/// Only `push`, `push_copies` and `append` take memory, and only for want of it do they answer `Err`. A
+/// column is then as it was.
 pub trait Column: Drop {
     /// The numbers, in order.
     ghost items: { Self → List ℤ };
@@ -44,10 +50,30 @@ pub trait Column: Drop {
     fn largest(&self) -> u64
         ensures { result ≡ largest (items self.now) };
 
+    /// The greatest number that divides the absolute value of each item, or 0 where each is 0.
+    fn common_divisor(&self) -> u64
+        ensures { IsGreatestCommon (map unsigned_abs (items self.now)) result };
+
+    /// The longest run of equal items that begins at the cursor, which is moved behind it; `None` at the
+    /// end of the column.
+    ///
+    /// So a column is read once, from one run to the next, and nothing is looked for.
+    fn next_run(&self, cursor: &mut Cursor) -> Option<Run>
+        requires { cursor.old ≤ length (items self.now) }
+        ensures next { IsNextRun (items self.now) cursor.old cursor.new result }
+        ensures first { IsFirstRun (items self.now) cursor.old cursor.new result }
+        ensures most { cursor.new ≤ MOST_ITEMS };
+
     /// The value follows the items.
     fn push(&mut self, value: i64) -> Result<(), NoMemory>
         requires { length (items self.old) + 1 ≤ MOST_ITEMS }
         ensures ok { OnOk result (items self.new ≡ items self.old ++ value ∷ []) }
+        ensures err { OnErr result (items self.new ≡ items self.old) };
+
+    /// So many copies of the value follow the items.
+    fn push_copies(&mut self, value: i64, count: u32) -> Result<(), NoMemory>
+        requires { length (items self.old) + count ≤ MOST_ITEMS }
+        ensures ok { OnOk result (items self.new ≡ items self.old ++ replicate count value) }
         ensures err { OnErr result (items self.new ≡ items self.old) };
 
     /// The items of the other follow the items.
@@ -61,6 +87,11 @@ pub trait Column: Drop {
         requires order { from ≤ to }
         requires inside { to ≤ length (items self.old) }
         ensures { items self.new ≡ slice_range (items self.old) from to };
+
+    /// Each item plus `by`.
+    fn shift_by(&mut self, by: i64)
+        requires { All (λ x. FitsSigned w64 (x +ℤ by)) (items self.old) }
+        ensures { items self.new ≡ map (λ x. x +ℤ by) (items self.old) };
 
     /// Each item times `k`.
     fn scale_by(&mut self, k: u32)

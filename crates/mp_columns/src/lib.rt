@@ -7,9 +7,11 @@
 
 mod columns;
 mod list;
+mod run;
 #[cfg(test)]
 mod tests;
 mod walks;
 
 pub use columns::{Column, MOST_ITEMS};
 pub use list::{Col, ListColumn};
+pub use run::{Cursor, Run};

@@ -1,8 +1,12 @@
-// A column that keeps its list.
+//! A column that keeps its list.
+
 ghost use Rattle.std.specs.Prelude.{◌≡◌, ◌≤◌};
 
 use crate::columns::Column;
-use crate::walks::{divide_each, keep, largest_of, scale_each, sum_of};
+use crate::run::{Cursor, Run};
+use crate::walks::{
+    divide_each, divisor_of, keep, largest_of, run_at, scale_each, shift_each, sum_of,
+};
 use mp_ports::NoMemory;
 use std::alloc::Global;
 use std::marker::Model;
@@ -56,8 +60,28 @@ impl Column for ListColumn {
         largest_of(&self.items)
     }
 
+    fn common_divisor(&self) -> u64 {
+        divisor_of(&self.items)
+    }
+
+    fn next_run(&self, cursor: &mut Cursor) -> Option<Run> {
+        let from = cursor.place();
+        if from == self.len() {
+            return None;
+        }
+        let run = run_at(&self.items, from);
+        *cursor = Cursor::at(from + run.count);
+        Some(run)
+    }
+
     fn push(&mut self, value: i64) -> Result<(), NoMemory> {
         self.items.push(value).map_err(|_| NoMemory)
+    }
+
+    fn push_copies(&mut self, value: i64, count: u32) -> Result<(), NoMemory> {
+        self.items.reserve(count as usize).map_err(|_| NoMemory)?;
+        let len = self.items.len() + count as usize;
+        self.items.resize(len, value).map_err(|_| NoMemory)
     }
 
     fn append(&mut self, other: &Self) -> Result<(), NoMemory> {
@@ -68,6 +92,10 @@ impl Column for ListColumn {
 
     fn keep_range(&mut self, from: u32, to: u32) {
         keep(&mut self.items, from as usize, to as usize);
+    }
+
+    fn shift_by(&mut self, by: i64) {
+        shift_each(&mut self.items, by);
     }
 
     fn scale_by(&mut self, k: u32) {

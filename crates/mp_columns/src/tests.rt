@@ -1,8 +1,9 @@
-// Each call at a concrete type, through the bound. The answers were computed by hand.
-ghost use Rattle.std.specs.Prelude.{◌≡◌, ◌≤◌, All, FitsSigned, IfOk, IsTrue, length, pos, ◌*ℤ◌, int_rem};
+//! Each call at a concrete type, through the bound. The answers were computed by hand.
+
+ghost use Rattle.std.specs.Prelude.{◌≡◌, ◌≤◌, All, FitsSigned, IfOk, IsTrue, length, pos, ◌+ℤ◌, ◌*ℤ◌, int_rem};
 ghost use Rattle.std.specs.Int.{w64};
 
-use crate::{Col, Column, MOST_ITEMS};
+use crate::{Col, Column, Cursor, MOST_ITEMS, Run};
 use mp_ports::NoMemory;
 use std::alloc::Global;
 use std::process::Abort;
@@ -11,8 +12,10 @@ use std::test::Fail;
 #[derive(Clone, Copy)]
 enum Step<'a> {
     Stay,
+    Copies(i64, u32),
     Append(&'a [i64]),
     Keep(u32, u32),
+    Shift(i64),
     Scale(u32),
     Divide(u32),
 }
@@ -31,6 +34,12 @@ fn filled<C: Column>(alloc: Global, items: &[i64]) -> Result<C, NoMemory>
     Ok(column)
 }
 
+fn sum_fits(x: i64, by: i64) -> bool
+    ensures { IsTrue result → FitsSigned w64 (x +ℤ by) }
+{
+    x.checked_add(by).is_some()
+}
+
 fn product_fits(x: i64, k: u32) -> bool
     ensures { IsTrue result → FitsSigned w64 (x *ℤ pos k) }
 {
@@ -42,6 +51,17 @@ fn divides(k: u32, x: i64) -> bool
     ensures { IsTrue result → int_rem x (pos k) ≡ pos 0 }
 {
     x % i64::from(k) == 0
+}
+
+fn can_shift<C: Column>(column: &C, by: i64) -> bool
+    ensures { IsTrue result → All (λ x. FitsSigned w64 (x +ℤ by)) (C.items column.now) }
+{
+    for i in 0..column.len() {
+        if !sum_fits(column.at(i), by) {
+            return false;
+        }
+    }
+    true
 }
 
 fn can_scale<C: Column>(column: &C, k: u32) -> bool
@@ -75,6 +95,10 @@ fn take_step<C: Column>(
 ) -> Result<(), NoMemory> {
     match step {
         Step::Stay => Ok(()),
+        Step::Copies(value, count) => {
+            assert!(rt; count <= 8 && column.len() <= 8);
+            column.push_copies(value, count)
+        }
         Step::Append(more) => {
             assert!(rt; more.len() <= 8 && column.len() <= 8);
             let other = filled::<C>(alloc, more)?;
@@ -83,6 +107,11 @@ fn take_step<C: Column>(
         Step::Keep(from, to) => {
             assert!(rt; from <= to && to <= column.len());
             column.keep_range(from, to);
+            Ok(())
+        }
+        Step::Shift(by) => {
+            assert!(rt; can_shift(column, by));
+            column.shift_by(by);
             Ok(())
         }
         Step::Scale(k) => {
@@ -122,7 +151,7 @@ fn run_row<C: Column>(
 
 #[test]
 fn calls_answer_as_by_hand(rt: HostRuntime) -> Result<(), Fail> {
-    let rows: [Row; 10] = [
+    let rows: [Row; 14] = [
         (&[], Step::Stay, &[], &[0], 0),
         (&[5, -7, 0], Step::Stay, &[5, -7, 0], &[0, 5, -2, -2], 7),
         (
@@ -131,6 +160,22 @@ fn calls_answer_as_by_hand(rt: HostRuntime) -> Result<(), Fail> {
             &[i64::MIN, i64::MIN],
             &[0, -9_223_372_036_854_775_808, -18_446_744_073_709_551_616],
             9_223_372_036_854_775_808,
+        ),
+        (
+            &[5],
+            Step::Copies(-2, 3),
+            &[5, -2, -2, -2],
+            &[0, 5, 3, 1, -1],
+            5,
+        ),
+        (&[5], Step::Copies(7, 0), &[5], &[0, 5], 5),
+        (&[1, -4], Step::Shift(-3), &[-2, -7], &[0, -2, -9], 7),
+        (
+            &[-1, i64::MIN],
+            Step::Shift(i64::MAX),
+            &[9_223_372_036_854_775_806, -1],
+            &[0, 9_223_372_036_854_775_806, 9_223_372_036_854_775_805],
+            9_223_372_036_854_775_806,
         ),
         (
             &[1, 2],
@@ -166,6 +211,55 @@ fn calls_answer_as_by_hand(rt: HostRuntime) -> Result<(), Fail> {
     ];
     for (row, case) in rows.iter().enumerate() {
         run_row::<Col>(&rt, rt.alloc(), row, *case)?;
+    }
+    Ok(())
+}
+
+// A list; then its greatest common divisor, and its longest runs.
+type Listed<'a> = (&'a [i64], u64, &'a [(i64, u32)]);
+
+fn run_listed<C: Column>(
+    rt: &impl Abort,
+    alloc: Global,
+    row: usize,
+    case: Listed,
+) -> Result<(), NoMemory> {
+    let (items, divisor, runs) = case;
+    assert!(rt; items.len() <= 8);
+    let column = filled::<C>(alloc, items)?;
+    assert_eq!(rt; column.common_divisor(), divisor, "row {row}");
+    let mut cursor = Cursor::at(0);
+    for (value, count) in runs {
+        let run = Run {
+            value: *value,
+            count: *count,
+        };
+        assert!(rt; cursor.place() <= column.len());
+        assert_eq!(rt; column.next_run(&mut cursor), Some(run), "row {row}");
+    }
+    assert!(rt; cursor.place() <= column.len());
+    assert_eq!(rt; column.next_run(&mut cursor), None, "row {row}");
+    assert_eq!(rt; cursor.place(), column.len(), "row {row}");
+    Ok(())
+}
+
+#[test]
+fn runs_and_divisors_as_by_hand(rt: HostRuntime) -> Result<(), Fail> {
+    let rows: [Listed; 7] = [
+        (&[], 0, &[]),
+        (&[0, 0], 0, &[(0, 2)]),
+        (&[7], 7, &[(7, 1)]),
+        (&[1024, 1024, 512], 512, &[(1024, 2), (512, 1)]),
+        (&[-6, 4, 4, -6, -6], 2, &[(-6, 1), (4, 2), (-6, 2)]),
+        (
+            &[i64::MIN, i64::MIN],
+            9_223_372_036_854_775_808,
+            &[(i64::MIN, 2)],
+        ),
+        (&[9, 0, -15, 25], 1, &[(9, 1), (0, 1), (-15, 1), (25, 1)]),
+    ];
+    for (row, case) in rows.iter().enumerate() {
+        run_listed::<Col>(&rt, rt.alloc(), row, *case)?;
     }
     Ok(())
 }

@@ -1,9 +1,15 @@
-// Walks over the numbers of a list.
-ghost use Rattle.std.specs.Prelude.{◌≡◌, ◌≤◌, All, FitsSigned, length, map, slice_range, pos, ◌*ℤ◌, int_div, int_rem};
+//! Walks over the numbers of a list.
+
+ghost use Rattle.std.specs.Prelude.{◌≡◌, ◌+◌, ◌≤◌, ◌<◌, All, FitsSigned, length, map, slice_range, unsigned_abs};
+ghost use Rattle.std.specs.Prelude.{pos, ◌+ℤ◌, ◌*ℤ◌, int_div, int_rem};
 ghost use Rattle.std.specs.Int.{w64};
+ghost use Rattle.mp_frac.specs.Divisors.{IsGreatestCommon};
 ghost use Rattle.mp_columns.specs.Numbers.{total, largest};
+ghost use Rattle.mp_columns.specs.Runs.{IsLongestRun};
 
 use crate::columns::MOST_ITEMS;
+use crate::run::Run;
+use mp_frac::gcd;
 
 /// The sum.
 pub(crate) fn sum_of(items: &[i64]) -> i128
@@ -28,6 +34,39 @@ pub(crate) fn largest_of(items: &[i64]) -> u64
     most
 }
 
+/// The greatest common divisor of the absolute values.
+pub(crate) fn divisor_of(items: &[i64]) -> u64
+    ensures { IsGreatestCommon (map unsigned_abs items.now) result }
+{
+    let mut divisor = 0;
+    for item in items {
+        divisor = gcd(divisor, item.unsigned_abs());
+    }
+    divisor
+}
+
+/// The longest run that begins at `from`.
+pub(crate) fn run_at(items: &[i64], from: u32) -> Run
+    requires inside { from < length items.now }
+    requires few { length items.now ≤ MOST_ITEMS }
+    ensures { IsLongestRun items.now from (from + result.count) result }
+{
+    let len = items.len() as u32;
+    let value = items[from as usize];
+    for to in from + 1..len {
+        if items[to as usize] != value {
+            return Run {
+                value,
+                count: to - from,
+            };
+        }
+    }
+    Run {
+        value,
+        count: len - from,
+    }
+}
+
 /// Keeps the items from `from` up to `to`, and moves each of them once.
 pub(crate) fn keep(items: &mut Vec<i64>, from: usize, to: usize)
     requires order { from ≤ to }
@@ -36,6 +75,16 @@ pub(crate) fn keep(items: &mut Vec<i64>, from: usize, to: usize)
 {
     items.copy_within(from..to, 0);
     items.truncate(to - from);
+}
+
+/// Each item plus `by`.
+pub(crate) fn shift_each(items: &mut [i64], by: i64)
+    requires { All (λ x. FitsSigned w64 (x +ℤ by)) items.old }
+    ensures { items.new ≡ map (λ x. x +ℤ by) items.old }
+{
+    for item in items.iter_mut() {
+        *item += by;
+    }
 }
 
 /// Each item times `k`.

@@ -1,4 +1,4 @@
 pub mod Reading
 pub mod Shifting
 pub mod Entries
-pub mod Law
+pub mod EditsAreReadBack

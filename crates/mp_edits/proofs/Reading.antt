@@ -2,7 +2,7 @@
 use Rattle.std.proofs.Common.{◌≡◌, ℕ, suc, ◌+◌, ◌-◌, ◌*◌, ◌<◌, ◌≤◌, Bool, List, [], ◌∷◌, ◌++◌, take, drop, map, Option, Some, None, refl, sym, ap, ◌∙◌, append_assoc, arith}
 use Rattle.std.proofs.lemmas.List.{drop-drop, append-nil}
 use Rattle.mp_ports.specs.declared.code.Code.{Code}
-use Rattle.mp_ports.specs.Answer.{first_some}
+use Rattle.mp_ports.specs.Checks.{first_some}
 use Rattle.mp_timeline.specs.declared.segment.Segment.{Segment}
 use Rattle.mp_boxes.specs.FullBox.{rows_of}
 use Rattle.mp_edits.specs.declared.entry.EditEntry.{EditEntry}

@@ -4,7 +4,7 @@ use Rattle.std.specs.Int.{w32, w64, cast_signed}
 use Rattle.std.specs.Ordering.{int_eq}
 use Rattle.mp_ports.specs.declared.code.Code.{Code}
 use Rattle.mp_ports.specs.declared.code.Code.TheVariants.{EditTime, EditRate}
-use Rattle.mp_ports.specs.Answer.{first_code}
+use Rattle.mp_ports.specs.Checks.{first_code}
 use Rattle.mp_timeline.specs.declared.segment.Segment.{Segment}
 use Rattle.mp_timeline.specs.declared.segment.Segment.TheVariants.{Empty, Media}
 use Rattle.mp_boxes.specs.Number.{u16_at, u32_at, u64_at}

@@ -4,7 +4,7 @@ use Rattle.std.specs.List.{list_any}
 use Rattle.mp_ports.specs.declared.code.Code.{Code}
 use Rattle.mp_ports.specs.declared.code.Code.TheVariants.{EditFlags, DurationLimit, StartLimit, SegmentLimit}
 use Rattle.mp_ports.specs.declared.fault.Bad.{Bad}
-use Rattle.mp_ports.specs.Answer.{fault_at, first_code, first_some, unless}
+use Rattle.mp_ports.specs.Checks.{fault_at, first_code, first_some, unless}
 use Rattle.mp_timeline.specs.declared.segment.Segment.{Segment}
 use Rattle.mp_boxes.specs.FullBox.{first_field, flags, full_box_checks, row_count, table_checks, table_rows, version}
 use Rattle.mp_edits.specs.declared.entry.EditEntry.{EditEntry}

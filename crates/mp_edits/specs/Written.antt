@@ -1,11 +1,12 @@
 -- The edit list box as it is written (ISO/IEC 14496-12, 8.6.6).
-use Rattle.std.specs.Prelude.{◌^◌, ◌-◌, Bool, true, false, ◌||◌, nat_lt, List, [], ◌∷◌, length, codes}
-use Rattle.std.specs.List.{flat_map, list_any}
+use Rattle.std.specs.Prelude.{◌^◌, ◌-◌, Bool, true, false, ◌||◌, nat_lt, List, [], ◌∷◌, map, codes}
+use Rattle.std.specs.List.{list_any}
 use Rattle.mp_timeline.specs.declared.segment.Segment.{Segment}
 use Rattle.mp_timeline.specs.declared.segment.Segment.TheVariants.{Empty, Media}
 use Rattle.mp_boxes.specs.declared.field.Field.{Field}
 use Rattle.mp_boxes.specs.declared.field.Field.TheVariants.{U16, U32, U64}
-use Rattle.mp_boxes.specs.Field.{Part, leaf, time, version_and_flags}
+use Rattle.mp_boxes.specs.Field.{Part, leaf, time}
+use Rattle.mp_boxes.specs.Table.{table_fields}
 
 -- a duration, or a media time as a signed number, does not fit 32 bits
 abbrev pub is_long : Segment → Bool
@@ -26,11 +27,6 @@ abbrev pub entry_fields : Bool → Segment → List Field
 entry_fields wide (Empty dur) = time wide dur ∷ no_media wide ∷ U16 1 ∷ U16 0 ∷ []
 entry_fields wide (Media start dur) = time wide dur ∷ time wide start ∷ U16 1 ∷ U16 0 ∷ []
 
--- version and flags, the number of entries, the entries
+-- a table of the entries
 abbrev pub elst : List Segment → Part
-elst edits =
-    let wide = needs_wide edits in
-    leaf (codes "elst")
-    (version_and_flags wide 0
-    ∷ U32 (length edits)
-    ∷ flat_map (entry_fields wide) edits)
+elst edits = let wide = needs_wide edits in leaf (codes "elst") (table_fields wide (map (entry_fields wide) edits))

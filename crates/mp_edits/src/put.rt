@@ -1,16 +1,15 @@
-//! The writer of the edit list box.
+//! The writers of the edit list box and of the edit box.
 
-ghost use Rattle.std.specs.Prelude.{◌≡◌, ℕ, ◌+◌, ◌≤◌, ◌++◌, ◌*◌, List, length, All, Ok, Some, OnOk, OnErr, IsFalse, false};
-ghost use Rattle.std.specs.List.{flat_map};
-ghost use Rattle.mp_boxes.specs.Field.{body_bytes, box_bytes};
-ghost use Rattle.mp_boxes.specs.Front.{IsFilled};
-ghost use Rattle.mp_edits.specs.Entry.{entry_len};
+ghost use Rattle.std.specs.Prelude.{◌≡◌, ◌<◌, ◌^◌, ◌++◌, All, IsFalse, OnErr, OnOk, false, map, option_map};
+ghost use Rattle.mp_boxes.specs.Field.{body_bytes, box_bytes, optional};
+ghost use Rattle.mp_boxes.specs.Push.{ArePushed, IsPushed};
+ghost use Rattle.mp_boxes.specs.Table.{HasLen, boxes_len, capped};
+ghost use Rattle.mp_edits.specs.EditBox.{AreEdits, edts};
 ghost use Rattle.mp_edits.specs.Segments.{IsEditList};
-ghost use Rattle.mp_edits.specs.Table.{elst_of};
-ghost use Rattle.mp_edits.specs.Written.{is_long, needs_wide, entry_fields, no_media, elst};
+ghost use Rattle.mp_edits.specs.Written.{elst, entry_fields, is_long, needs_wide, no_media};
 
 use crate::entry::entry_len;
-use mp_boxes::{FIRST_ROW, Field, put_fields};
+use mp_boxes::{Field, begin_box, begin_table, box_len, push_fields, reserve, table_len};
 use mp_ports::NoMemory;
 use mp_timeline::Segment;
 
@@ -19,9 +18,6 @@ const LAST_DURATION: u64 = u32::MAX as u64;
 
 /// The last start that fits version 0, in which it is a signed number.
 const LAST_START: u64 = i32::MAX as u64;
-
-/// The length of the box without its entries: size, type, version and flags, count.
-const HEAD: usize = 8 + FIRST_ROW;
 
 /// Whether a segment needs version 1.
 fn is_long(segment: &Segment) -> bool
@@ -68,18 +64,39 @@ fn entry_fields(wide: bool, segment: Segment) -> [Field<'static>; 4]
     ]
 }
 
-/// Writes the entries from `at` on, and answers where they end.
-fn put_entries(out: &mut [u8], at: usize, wide: bool, edits: &[Segment]) -> usize
-    requires fits { IsFalse wide → All (λ edit. is_long edit ≡ false) edits.now }
-    requires room { at + entry_len wide * length edits.now ≤ length out.old }
-    ensures { (base text : List ℕ) → IsFilled base out.old at text
-        → IsFilled base out.new result (text ++ flat_map (λ edit. body_bytes (entry_fields wide edit)) edits.now) }
+/// Pushes the entries.
+fn push_entries(wide: bool, edits: &[Segment], out: &mut Vec<u8>)
+    requires { IsFalse wide → All (λ edit. is_long edit ≡ false) edits.now }
+    ensures { ArePushed out.old out.new (map body_bytes (map (entry_fields wide) edits.now)) }
 {
-    let mut end = at;
     for &segment in edits {
-        end = put_fields(out, end, &entry_fields(wide, segment));
+        push_fields(out, &entry_fields(wide, segment));
     }
-    end
+}
+
+/// The length of the box `elst` of these segments.
+pub fn elst_len(edits: &[Segment]) -> u64
+    requires { IsEditList edits.now }
+    ensures len { HasLen result (elst edits.now) }
+    ensures short { result < 2 ^ 32 }
+{
+    table_len(edits.len() as u32, entry_len(needs_wide(edits)) as u32)
+}
+
+/// Pushes the box `elst` of these segments, in the least version that holds them.
+pub fn push_elst(edits: &[Segment], out: &mut Vec<u8>)
+    requires { IsEditList edits.now }
+    ensures { IsPushed out.old out.new (box_bytes (elst edits.now)) }
+{
+    let wide = needs_wide(edits);
+    begin_table(
+        out,
+        *b"elst",
+        wide,
+        edits.len() as u32,
+        entry_len(wide) as u32,
+    );
+    push_entries(wide, edits, out);
 }
 
 /// Appends the box `elst` of these segments, in the least version that holds them.
@@ -89,20 +106,30 @@ pub fn put_elst(edits: &[Segment], out: &mut Vec<u8>) -> Result<(), NoMemory>
     requires { IsEditList edits.now }
     ensures written { OnOk result (out.new.items ≡ out.old.items ++ box_bytes (elst edits.now)) }
     ensures failed { OnErr result (out.new.items ≡ out.old.items) }
-    ensures read_back { (base : ℕ) → elst_of base (elst edits.now).body ≡ Ok (Some edits.now) }
 {
-    let wide = needs_wide(edits);
-    let at = out.len();
-    let len = HEAD + entry_len(wide) * edits.len();
-    out.resize(at + len, 0)?;
-    let head = [
-        Field::U32(len as u32),
-        Field::Bytes(b"elst"),
-        Field::version_and_flags(wide, 0),
-        Field::U32(edits.len() as u32),
-    ];
-    let out = out.as_mut_slice();
-    let end = put_fields(out, at, &head);
-    put_entries(out, end, wide, edits);
+    reserve(out, elst_len(edits) as u32)?;
+    push_elst(edits, out);
     Ok(())
+}
+
+/// The length of the box `edts` of these edits (8.6.5), which stands only where there are some.
+pub fn edts_len(edits: Option<&[Segment]>) -> u64
+    requires { AreEdits (option_map (λ list. list.now) edits) }
+    ensures { result ≡ capped (boxes_len (optional (edts (option_map (λ list. list.now) edits.entry)))) }
+{
+    match edits {
+        Some(edits) => box_len(&[], elst_len(edits)),
+        None => 0,
+    }
+}
+
+/// Pushes the box `edts` of these edits (8.6.5), where there are some.
+pub fn push_edts(edits: Option<&[Segment]>, out: &mut Vec<u8>)
+    requires { AreEdits (option_map (λ list. list.now) edits) }
+    ensures { ArePushed out.old out.new (map box_bytes (optional (edts (option_map (λ list. list.now) edits.entry)))) }
+{
+    if let Some(edits) = edits {
+        begin_box(out, *b"edts", &[], box_len(&[], elst_len(edits)));
+        push_elst(edits, out);
+    }
 }

@@ -1,7 +1,8 @@
 //! The reader of the edit list box.
 
 ghost use Rattle.std.specs.Prelude.{◌≡◌, ◌*◌, ◌≤◌, length, map, option_map, OnOk};
-ghost use Rattle.mp_ports.specs.Answer.{Checks, Gives, fault_at, first_code, placed, unless};
+ghost use Rattle.mp_ports.specs.Checks.{Checks, fault_at, first_code, placed, unless};
+ghost use Rattle.mp_ports.specs.Gives.{Gives, refusal};
 ghost use Rattle.mp_boxes.specs.FullBox.{HasRows, first_field, row_count, rows_of};
 ghost use Rattle.mp_edits.specs.Entry.{entry_len, entry_of, segment_of};
 ghost use Rattle.mp_edits.specs.Table.{edits_of, elst_checks, elst_of, entries_fault, is_wide, limit_checks};
@@ -40,6 +41,7 @@ fn entry_count(body: &[u8], base: u64) -> Result<u32, Bad>
     row_count(body, NEWEST_VERSION, entry_len(is_wide(body)), base)
 }
 
+/// The segments of so many entries, one behind the other: those of the box at `base`.
 fn read_entries(
     alloc: Global,
     bytes: &[u8],
@@ -49,7 +51,8 @@ fn read_entries(
 ) -> Result<Vec<Segment>, Fail>
     requires { entry_len wide * count ≤ length bytes.now }
     ensures { let entries = map (entry_of wide) (rows_of count (entry_len wide) bytes.now) in
-        Gives (λ edits. edits.items) result (unless (fault_at base (entries_fault entries)) (map segment_of entries)) }
+        Gives refusal (λ edits. edits.items) result
+        (unless (fault_at base (entries_fault entries)) (map segment_of entries)) }
 {
     let len = entry_len(wide);
     let mut edits = Vec::new(alloc);
@@ -83,7 +86,7 @@ fn check_limits(edits: &[Segment]) -> Result<(), Bad>
 /// in order, is `elst_faults`: `TableLength`, `BoxVersion`, `EditFlags`, `TableLength`, `SegmentLimit`,
 /// `EditTime`, `EditRate`, `DurationLimit` and `StartLimit`, limits at place 0 and all else at `base`.
 pub fn read_elst(alloc: Global, body: &[u8], base: u64) -> Result<Option<Vec<Segment>>, Fail>
-    ensures { Gives (λ edits. option_map (λ list. list.items) edits) result (elst_of base body.now) }
+    ensures { Gives refusal (λ edits. option_map (λ list. list.items) edits) result (elst_of base body.now) }
 {
     let count = entry_count(body, base)?;
     if count > MOST_SEGMENTS {

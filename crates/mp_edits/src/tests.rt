@@ -1,10 +1,12 @@
 //! Edit lists byte by byte as ISO/IEC 14496-12, 8.6.6 lays them out, and the answers that they give.
 
+ghost use Rattle.mp_edits.specs.EditBox.{AreEdits};
 ghost use Rattle.mp_edits.specs.Segments.{IsEditList};
-ghost use Rattle.std.specs.Prelude.{◌≡◌};
+ghost use Rattle.std.specs.Prelude.{◌≡◌, option_map};
 ghost use Rattle.mp_timeline.specs.declared.segment.Segment.TheVariants.{Empty, Media};
 
-use crate::{put_elst, read_elst, shift, total};
+use crate::{edts_len, push_edts, put_elst, read_elst, shift, total};
+use mp_boxes::reserve;
 use mp_ports::{Bad, Code, Fail, NoMemory};
 use mp_timeline::Segment;
 use std::alloc::Global;
@@ -51,7 +53,8 @@ fn each_list_is_read(rt: HostRuntime) {
         b"\0\0\0\0\0\0\0\x02\0\0\x01\xF4\xFF\xFF\xFF\xFF\0\x01\0\0\0\0\x03\xE8\0\0\0\x14\0\x01\0\0";
     assert!(rt; is_read(rt.alloc(), in_32_bits, Some(&[empty(500), media(20, 1000)])));
     let in_64_bits_and_a_byte_more =
-        b"\x01\0\0\0\0\0\0\x02\0\0\0\x01\0\0\0\0\xFF\xFF\xFF\xFF\xFF\xFF\xFF\xFF\0\x01\0\0\0\0\0\0\0\0\0\x05\0\0\0\0\x80\0\0\0\0\x01\0\0\xAA";
+        b"\x01\0\0\0\0\0\0\x02\0\0\0\x01\0\0\0\0\xFF\xFF\xFF\xFF\xFF\xFF\xFF\xFF\0\x01\0\0\0\0\
+            \0\0\0\0\0\x05\0\0\0\0\x80\0\0\0\0\x01\0\0\xAA";
     assert!(rt;
         is_read(
             rt.alloc(),
@@ -69,7 +72,8 @@ fn each_list_is_read(rt: HostRuntime) {
         )
     );
     let up_to_the_limits =
-        b"\x01\0\0\0\0\0\0\x01\x3F\xFF\xFF\xFF\xFF\xFF\xFF\xFF\x3F\xFF\xFF\xFF\xFF\xFF\xFF\xFF\0\x01\0\0";
+        b"\x01\0\0\0\0\0\0\x01\x3F\xFF\xFF\xFF\xFF\xFF\xFF\xFF\x3F\xFF\xFF\xFF\xFF\xFF\xFF\xFF\
+            \0\x01\0\0";
     assert!(rt;
         is_read(
             rt.alloc(),
@@ -126,7 +130,8 @@ fn each_fault_has_its_place_in_the_order(rt: HostRuntime) {
         ),
         (
             "2^61 and 2^61 ticks, the last from 2^62 on",
-            b"\x01\0\0\0\0\0\0\x02\x20\0\0\0\0\0\0\0\0\0\0\0\0\0\0\0\0\x01\0\0\x20\0\0\0\0\0\0\0\x40\0\0\0\0\0\0\0\0\x01\0\0",
+            b"\x01\0\0\0\0\0\0\x02\x20\0\0\0\0\0\0\0\0\0\0\0\0\0\0\0\0\x01\0\0\x20\0\0\0\0\0\0\
+                \0\x40\0\0\0\0\0\0\0\0\x01\0\0",
             Code::DurationLimit,
             0,
         ),
@@ -170,7 +175,8 @@ fn each_list_is_written_in_the_least_version(rt: HostRuntime) {
     let rows: [(Result<Vec<u8>, NoMemory>, &[u8]); 4] = [
         (
             written(rt.alloc(), &[empty(500), media(20, 1000)]),
-            b"ab\0\0\0\x28elst\0\0\0\0\0\0\0\x02\0\0\x01\xF4\xFF\xFF\xFF\xFF\0\x01\0\0\0\0\x03\xE8\0\0\0\x14\0\x01\0\0",
+            b"ab\0\0\0\x28elst\0\0\0\0\0\0\0\x02\0\0\x01\xF4\xFF\xFF\xFF\xFF\0\x01\0\0\0\0\x03\
+                \xE8\0\0\0\x14\0\x01\0\0",
         ),
         (
             written(rt.alloc(), &[media(2147483647, 4294967295)]),
@@ -182,12 +188,36 @@ fn each_list_is_written_in_the_least_version(rt: HostRuntime) {
         ),
         (
             written(rt.alloc(), &[empty(4294967296)]),
-            b"ab\0\0\0\x24elst\x01\0\0\0\0\0\0\x01\0\0\0\x01\0\0\0\0\xFF\xFF\xFF\xFF\xFF\xFF\xFF\xFF\0\x01\0\0",
+            b"ab\0\0\0\x24elst\x01\0\0\0\0\0\0\x01\0\0\0\x01\0\0\0\0\xFF\xFF\xFF\xFF\xFF\xFF\
+                \xFF\xFF\0\x01\0\0",
         ),
     ];
     for (out, wanted) in rows.iter() {
         assert!(rt; matches!(out, Ok(out) if out.as_slice() == *wanted));
     }
+}
+
+/// The edit box of these edits, if they need one.
+fn edit_box(alloc: Global, edits: Option<&[Segment]>) -> Result<Vec<u8>, NoMemory>
+    requires { AreEdits (option_map (λ list. list.now) edits) }
+{
+    let mut out = Vec::new(alloc);
+    reserve(&mut out, edts_len(edits).min(100) as u32)?;
+    push_edts(edits, &mut out);
+    Ok(out)
+}
+
+#[test]
+fn edit_box_stands_only_where_there_are_edits(rt: HostRuntime) -> Result<(), TestFail> {
+    let one = edit_box(rt.alloc(), Some(&[empty(500)]))?;
+    assert_eq!(rt;
+        one.as_slice(),
+        b"\0\0\0\x24edts\0\0\0\x1Celst\0\0\0\0\0\0\0\x01\0\0\x01\xF4\xFF\xFF\xFF\xFF\0\x01\0\
+            \0"
+            .as_slice()
+    );
+    assert!(rt; edit_box(rt.alloc(), None)?.is_empty());
+    Ok(())
 }
 
 #[test]

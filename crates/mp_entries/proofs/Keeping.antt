@@ -1,8 +1,10 @@
 -- What is kept and what is written are sample entries.
-use Rattle.std.proofs.Common.{◌≡◌, ℕ, ◌+◌, ◌-◌, ◌^◌, ◌<◌, ◌≤◌, Bool, true, false, cond, List, [], ◌∷◌, ◌++◌, length, get_or, take, drop, Option, Some, None, Ok, refl, sym, ap, ◌∙◌, append_assoc, arith}
+use Rattle.std.proofs.Common.{◌≡◌, ℕ, ◌+◌, ◌-◌, ◌^◌, ◌<◌, ◌≤◌, Bool, true, false, List, [], ◌∷◌, ◌++◌, length, get_or, take, drop, Option, Some, None, Result, Ok, Err, IfOk, refl, sym, ap, subst, ◌∙◌, append_assoc, arith}
 use Rattle.std.specs.Prelude.{codes, if◌then◌else◌}
 use Rattle.std.specs.Int.{w32, to_be_bytes}
 use Rattle.std.specs.Str.{bytes_eq}
+use Rattle.std.specs.declared.alloc.Global.{Global}
+use Rattle.std.specs.declared.vec.Vec.{Vec}
 use Rattle.std.proofs.lemmas.Bool.{ltb-false}
 use Rattle.std.proofs.lemmas.List.{append-nil, drop_all, length-append, length-take, length-drop, get_or-append-add}
 use Rattle.std.proofs.Math.Seq.{take-add}
@@ -12,41 +14,32 @@ use Rattle.mp_boxes.specs.Boxes.{IsBytes}
 use Rattle.mp_boxes.specs.Number.{u16_at}
 use Rattle.mp_boxes.specs.Header.{Short, IsHeader}
 use Rattle.mp_boxes.specs.Head.{head_at}
-use Rattle.mp_boxes.specs.Field.{Part, box_bytes, body_bytes}
-use Rattle.mp_boxes.specs.Parts.{HasPlainKind}
+use Rattle.mp_boxes.specs.Laws.{HeadsAreRead}
+use Rattle.mp_boxes.specs.Field.{Part, box_bytes}
+use Rattle.mp_boxes.specs.Table.{BoxesHaveLengths}
 use Rattle.mp_entries.specs.Entry.{IsEntry, is_protected, reference}
 use Rattle.mp_entries.specs.Kept.{entry_fault, with_first_reference}
-use Rattle.mp_entries.specs.Esds.{EsdsRecord, sound_fields, picture_fields, esds, esds_entry}
+use Rattle.mp_entries.specs.Esds.{EsdsRecord, mp4a, mp4v}
+use Rattle.mp_entries.specs.Whole.{HeadStays, WrittenIsWhole}
+use Rattle.mp_entries.specs.Avc1.{avcc, avc1_entry, most_configuration}
 
 same_head : (a b : TopHead) → a.kind ≡ b.kind → a.head ≡ b.head → a.len ≡ b.len → a ≡ b
 same_head a b p q r = λ i. record { kind = p i; head = q i; len = r i }
 
--- each spelling of a header is read
-abbrev pub Read : Type 0
-Read = (top : Bool) (kind header body after : List ℕ) → IsHeader top kind (length body) after header
-    → head_at top (header ++ (body ++ after)) ≡ Ok (record { kind = kind; head = length header; len = length header + length body })
-
--- what is read is spelled so
-abbrev pub Spelled : Type 0
-Spelled = (top : Bool) (text : List ℕ) (head : TopHead) → IsBytes text → head_at top text ≡ Ok head
-    → IsHeader top head.kind (head.len - head.head) (drop head.len text) (take head.head text)
-
-pub head_stays : (text body : List ℕ) (head : TopHead) → IsBytes text → head_at false text ≡ Ok head → head.len ≡ length text → head.head + length body ≡ length text
-    → Read → Spelled → head_at false (take head.head text ++ body) ≡ Ok head
-head_stays text body head bytes read ends len reads spelled =
+pub head_stays : HeadsAreRead → HeadStays
+head_stays law text body head bytes read ends len =
     let header = take head.head text in
     let size : head.len - head.head ≡ length body = omega arith in
     let none : drop head.len text ≡ [] = drop_all head.len text (omega arith) in
-    let is : IsHeader false head.kind (length body) [] header = rw (size, none) at (spelled false text head bytes read) in
+    let is : IsHeader false head.kind (length body) [] header = rw (size, none) at (law.spelled false text head bytes read) in
     let header_len : length header ≡ head.head = omega (arith, length-take head.head text) in
-    let again = reads false head.kind header body [] is in
+    let again = law.read false head.kind header body [] is in
     ap (λ (t : List ℕ). head_at false (header ++ t)) (sym (append-nil body))
     ∙ (again ∙ ap (λ (h : TopHead). Ok h) (same_head _ head refl header_len (omega arith)))
 
-pub written_is_whole : (part : Part) → HasPlainKind part → 8 + length part.body < 2 ^ 32 → Read
-    → head_at false (box_bytes part) ≡ Ok (record { kind = part.kind; head = 8; len = 8 + length part.body })
+pub written_is_whole : HeadsAreRead → WrittenIsWhole
 unfolding box_bytes
-written_is_whole part plain small reads =
+written_is_whole law part plain small =
     let header = to_be_bytes w32 (8 + length part.body) ++ part.kind in
     let size : length header ≡ 8 = let four = plain.four in omega (arith, length-append (to_be_bytes w32 (8 + length part.body)) part.kind) in
     let is : IsHeader false part.kind (length part.body) [] header = record {
@@ -58,16 +51,7 @@ written_is_whole part plain small reads =
       text = sym (append-nil header);
     } in
     ap (λ (t : List ℕ). head_at false (header ++ t)) (sym (append-nil part.body))
-    ∙ (reads false part.kind header part.body [] is ∙ ap (λ (h : TopHead). Ok h) (same_head _ _ refl size (omega arith)))
-
--- the head of a whole box stays
-abbrev pub Stays : Type 0
-Stays = (text body : List ℕ) (head : TopHead) → IsBytes text → head_at false text ≡ Ok head → head.len ≡ length text → head.head + length body ≡ length text
-    → head_at false (take head.head text ++ body) ≡ Ok head
-
--- a box that is written is whole
-abbrev pub Whole : Type 0
-Whole = (part : Part) → HasPlainKind part → 8 + length part.body < 2 ^ 32 → head_at false (box_bytes part) ≡ Ok (record { kind = part.kind; head = 8; len = 8 + length part.body })
+    ∙ (law.read false part.kind header part.body [] is ∙ ap (λ (h : TopHead). Ok h) (same_head _ _ refl size (omega arith)))
 
 -- a check is passed, and the others
 passed : (test : Bool) (code : Code) (others : Option Code) → (if test then Some code else others) ≡ None → (test ≡ false) × (others ≡ None)
@@ -114,7 +98,7 @@ reference-kept bytes from le =
     rw (append_assoc front (0 ∷ 1 ∷ []) (drop (from + 8) bytes), behind front rest (from + 6) 0 (omega arith), behind front rest (from + 6 + 1) 1 (omega arith)) refl
 
 pub kept_is_entry : (bytes : List ℕ) (local : List Bool) (head : TopHead) → IsBytes bytes → head_at false bytes ≡ Ok head → head.len ≡ length bytes → entry_fault head.kind head.head bytes local ≡ None
-    → Stays → IsEntry (with_first_reference head.head bytes)
+    → HeadStays → IsEntry (with_first_reference head.head bytes)
 kept_is_entry bytes local head all read ends fine stays =
     let from = head.head in
     let room = entry_room bytes local head fine in
@@ -129,7 +113,7 @@ kept_is_entry bytes local head all read ends fine stays =
       first = reference-kept bytes from room;
     }
 
-part_is_entry : (a b c d : ℕ) (rest : List ℕ) → bytes_eq (a ∷ b ∷ c ∷ d ∷ []) (codes "uuid") ≡ false → is_protected (a ∷ b ∷ c ∷ d ∷ []) ≡ false → Whole
+part_is_entry : (a b c d : ℕ) (rest : List ℕ) → bytes_eq (a ∷ b ∷ c ∷ d ∷ []) (codes "uuid") ≡ false → is_protected (a ∷ b ∷ c ∷ d ∷ []) ≡ false → WrittenIsWhole
     → 8 + length (0 ∷ 0 ∷ 0 ∷ 0 ∷ 0 ∷ 0 ∷ 0 ∷ 1 ∷ rest) < 2 ^ 32 → IsEntry (box_bytes (record { kind = a ∷ b ∷ c ∷ d ∷ []; body = 0 ∷ 0 ∷ 0 ∷ 0 ∷ 0 ∷ 0 ∷ 0 ∷ 1 ∷ rest }))
 unfolding box_bytes u16_at
 part_is_entry a b c d rest plain open_ whole small =
@@ -143,10 +127,18 @@ part_is_entry a b c d rest plain open_ whole small =
       first = refl;
     }
 
-pub written_is_entry : (e : EsdsRecord) → Whole → 8 + length (esds_entry e).body < 2 ^ 32 → IsEntry (box_bytes (esds_entry e))
-written_is_entry e whole small = by e.audio small
-  where
-    by : (audio : Bool) → 8 + length (body_bytes (cond audio (sound_fields e) picture_fields) ++ box_bytes (esds e)) < 2 ^ 32
-        → IsEntry (box_bytes (record { kind = cond audio (codes "mp4a") (codes "mp4v"); body = body_bytes (cond audio (sound_fields e) picture_fields) ++ box_bytes (esds e) }))
-    by true small = part_is_entry 109 112 52 97 _ refl refl whole small
-    by false small = part_is_entry 109 112 52 118 _ refl refl whole small
+-- the entries that are written
+pub sound_is_entry : (e : EsdsRecord) → WrittenIsWhole → 8 + length (mp4a e).body < 2 ^ 32 → IsEntry (box_bytes (mp4a e))
+sound_is_entry e whole small = part_is_entry 109 112 52 97 _ refl refl whole small
+
+pub picture_is_entry : (e : EsdsRecord) → WrittenIsWhole → 8 + length (mp4v e).body < 2 ^ 32 → IsEntry (box_bytes (mp4v e))
+picture_is_entry e whole small = part_is_entry 109 112 52 118 _ refl refl whole small
+
+pub avc1_is_entry : BoxesHaveLengths → WrittenIsWhole → (bytes : List ℕ) (width height : ℕ) → length bytes ≤ most_configuration → IsEntry (box_bytes (avc1_entry bytes width height))
+avc1_is_entry law whole bytes width height le = part_is_entry 97 118 99 49 _ refl refl whole (omega (arith, law.all (avcc bytes ∷ []), length-append bytes []))
+
+-- what was written is an entry
+pub entry_is : {E : Type 0} → BoxesHaveLengths → (r : Result (Vec ℕ Global) E) (part : Part) → length part.kind ≡ 4 → (8 + length part.body < 2 ^ 32 → IsEntry (box_bytes part)) → IfOk r (λ out. out.items ≡ box_bytes part) → IfOk r (λ out. length out.items ≤ 65668)
+    → IfOk r (λ out. IsEntry out.items)
+entry_is law (Ok out) part four is text short = subst IsEntry (sym text) (is (omega (arith, ap length text, law.one part, four)))
+entry_is law (Err e) part four is text short = tt

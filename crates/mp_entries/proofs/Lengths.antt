@@ -2,10 +2,10 @@
 use Rattle.std.proofs.Common.{◌≡◌, ℕ, ◌+◌, ◌<◌, false, List, [], ◌∷◌, ◌++◌, length, refl, ap, arith}
 use Rattle.std.proofs.lemmas.List.{length-append}
 use Rattle.std.specs.Prelude.{◌==◌}
-use Rattle.std.specs.Int.{w32, to_be_bytes}
-use Rattle.mp_boxes.specs.Field.{Part, body_bytes, box_bytes}
-use Rattle.mp_entries.specs.Descriptor.{length_bytes, descriptor, decoder_tag, specific_tag, sync_tag}
-use Rattle.mp_entries.specs.Esds.{EsdsRecord, specific_info, decoder_fields, decoder_body, stream_body, esds, sample_fields, esds_entry}
+use Rattle.mp_boxes.specs.Field.{body_bytes, version_and_flags}
+use Rattle.mp_boxes.specs.Table.{box_len}
+use Rattle.mp_entries.specs.Descriptor.{length_bytes, descriptor, decoder_tag, specific_tag, stream_tag, sync_tag}
+use Rattle.mp_entries.specs.Esds.{EsdsRecord, specific_info, decoder_fields, decoder_body, stream_body, esds}
 
 pub length-descriptor : (tag : ℕ) (body : List ℕ) → length (descriptor tag body) ≡ 1 + length (length_bytes (length body)) + length body
 unfolding descriptor
@@ -33,10 +33,5 @@ pub some_bytes : (info : List ℕ) → false ≡ (length info == 0) → 0 < leng
 some_bytes [] e = absurd cc
 some_bytes (byte ∷ bytes) e = omega arith
 
-pub length-box_bytes : (part : Part) → length part.kind ≡ 4 → length (box_bytes part) ≡ 8 + length part.body
-unfolding box_bytes
-length-box_bytes part e =
-    omega (arith, length-append (to_be_bytes w32 (8 + length part.body) ++ part.kind) part.body, length-append (to_be_bytes w32 (8 + length part.body)) part.kind)
-
-pub length-entry : (e : EsdsRecord) → 8 + length (esds_entry e).body ≡ 8 + length (body_bytes (sample_fields e)) + (8 + length (esds e).body)
-length-entry e = omega (arith, length-append (body_bytes (sample_fields e)) (box_bytes (esds e)), length-box_bytes (esds e) refl)
+pub esds-len : (e : EsdsRecord) → box_len (esds e) ≡ 12 + length (descriptor stream_tag (stream_body e))
+esds-len e = omega (arith, length-append (body_bytes (version_and_flags false 0 ∷ [])) (descriptor stream_tag (stream_body e)))

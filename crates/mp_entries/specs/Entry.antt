@@ -6,12 +6,6 @@ use Rattle.mp_boxes.specs.declared.head.TopHead.{TopHead}
 use Rattle.mp_boxes.specs.Head.{head_at}
 use Rattle.mp_boxes.specs.Number.{u16_at}
 
--- one whole box, as it stands inside a container
-pub record IsWhole (bytes : List ℕ) : Type 0 where
-  pub head : TopHead
-  pub read : head_at false bytes ≡ Ok head
-  pub ends : head.len ≡ length bytes
-
 -- the types of protected entries (8.12)
 abbrev pub is_protected : List ℕ → Bool
 is_protected kind = list_any (bytes_eq kind) (codes "encv" ∷ codes "enca" ∷ codes "enct" ∷ codes "encs" ∷ [])

@@ -3,7 +3,9 @@ use Rattle.std.specs.Prelude.{ℕ, ◌*◌, ◌^◌, Bool, false, nat_lt, if◌t
 use Rattle.std.specs.Int.{w32, to_be_bytes}
 use Rattle.mp_boxes.specs.declared.field.Field.{Field}
 use Rattle.mp_boxes.specs.declared.field.Field.TheVariants.{U16, U32}
-use Rattle.mp_boxes.specs.Field.{Part, body_bytes, box_bytes, raw, version_and_flags, zeros}
+use Rattle.mp_boxes.specs.Field.{Part, body_bytes, raw, version_and_flags, zeros}
+use Rattle.mp_boxes.specs.Table.{mixed}
+use Rattle.mp_entries.specs.Visual.{visual_fields}
 use Rattle.mp_entries.specs.Descriptor.{descriptor, stream_tag, decoder_tag, specific_tag, sync_tag}
 
 -- what such an entry says: objectTypeIndication, channels and samples a second of sound, size of the buffer,
@@ -69,28 +71,14 @@ sound_fields e =
     ∷ U32 (sample_rate e.rate)
     ∷ []
 
--- VisualSampleEntry (14496-12, 12.1.3): reserved, data reference 1, reserved, width and height 0, 72 dots an inch each way,
--- reserved, one frame a sample, no name of a compressor, depth 24, −1
-abbrev pub picture_fields : List Field
-picture_fields =
-    zeros 6
-    ∷ U16 1
-    ∷ zeros 16
-    ∷ U16 0
-    ∷ U16 0
-    ∷ U32 0x00480000
-    ∷ U32 0x00480000
-    ∷ U32 0
-    ∷ U16 1
-    ∷ zeros 32
-    ∷ U16 24
-    ∷ U16 0xFFFF
-    ∷ []
+-- the entry of sound
+abbrev pub mp4a : EsdsRecord → Part
+mp4a e = mixed (codes "mp4a") (sound_fields e) (esds e ∷ [])
 
--- the fields in front of the stream's descriptor
-abbrev pub sample_fields : EsdsRecord → List Field
-sample_fields e = if e.audio then sound_fields e else picture_fields
+-- the entry of pictures: VisualSampleEntry with width and height 0
+abbrev pub mp4v : EsdsRecord → Part
+mp4v e = mixed (codes "mp4v") (visual_fields 0 0) (esds e ∷ [])
 
 -- the sample entry
 abbrev pub esds_entry : EsdsRecord → Part
-esds_entry e = record { kind = if e.audio then codes "mp4a" else codes "mp4v"; body = body_bytes (sample_fields e) ++ box_bytes (esds e) }
+esds_entry e = if e.audio then mp4a e else mp4v e

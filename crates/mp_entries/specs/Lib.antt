@@ -1,4 +1,9 @@
+pub mod Whole
 pub mod Entry
 pub mod Kept
+pub mod Reference
+pub mod Description
 pub mod Descriptor
+pub mod Visual
 pub mod Esds
+pub mod Avc1

@@ -1,12 +1,13 @@
 //! The heads of descriptors (ISO/IEC 14496-1, 8.3.3).
 
-ghost use Rattle.std.specs.Prelude.{◌≡◌, ℕ, ◌+◌, ◌^◌, ◌<◌, ◌≤◌, ◌++◌, List, length, OnOk};
+ghost use Rattle.std.specs.Prelude.{◌≡◌, ℕ, ◌+◌, ◌^◌, ◌<◌, ◌≤◌, List, length};
+ghost use Rattle.mp_boxes.specs.Push.{IsPushed};
 ghost use Rattle.mp_entries.specs.Descriptor.{group, length_bytes, descriptor_head, descriptor};
 
-use std::alloc::AllocError;
+use mp_boxes::push_bytes;
 
 /// The length of a descriptor whose body has `len` bytes.
-pub fn descriptor_len(len: usize) -> usize
+pub fn descriptor_len(len: u64) -> u64
     requires { len < 2 ^ 28 }
     ensures len { (tag : ℕ) (body : List ℕ) → length body ≡ len → result ≡ length (descriptor tag body) }
     ensures most { result ≤ len + 5 }
@@ -16,7 +17,7 @@ pub fn descriptor_len(len: usize) -> usize
 
 /// The number of bytes of a length.
 #[tactic(auto, unfolding(crate::specs::Descriptor::length_bytes))]
-fn length_len(len: usize) -> usize
+fn length_len(len: u64) -> u64
     ensures len { result ≡ length (length_bytes len) }
     ensures most { result ≤ 4 }
 {
@@ -33,27 +34,25 @@ fn length_len(len: usize) -> usize
     bytes
 }
 
-/// Appends a group of 7 bits with the top bit set, where the length has so many.
-fn append_group(out: &mut Vec<u8>, unit: usize, len: usize) -> Result<(), AllocError>
+/// Pushes a group of 7 bits with the top bit set, where the length has so many.
+fn push_group(out: &mut Vec<u8>, unit: u64, len: u64)
     requires { 0 < unit }
-    ensures { OnOk result (out.new.items ≡ out.old.items ++ group unit len) }
+    ensures { IsPushed out.old out.new (group unit len) }
 {
-    if len >= unit {
-        out.push(128 + (len / unit % 128) as u8)?;
+    if len < unit {
+        return;
     }
-    Ok(())
+    push_bytes(out, &[128 + (len / unit % 128) as u8]);
 }
 
-/// Appends tag and length of a descriptor whose body has `len` bytes.
-#[tactic(auto, unfolding(crate::specs::Descriptor::length_bytes))]
-pub fn append_head(out: &mut Vec<u8>, tag: u8, len: usize) -> Result<(), AllocError>
+/// Pushes tag and length of a descriptor whose body has `len` bytes.
+pub fn push_head(out: &mut Vec<u8>, tag: u8, len: u64)
     requires { len < 2 ^ 28 }
-    ensures { OnOk result (out.new.items ≡ out.old.items ++ descriptor_head tag len) }
+    ensures { IsPushed out.old out.new (descriptor_head tag len) }
 {
-    out.push(tag)?;
-    append_group(out, 1 << 21, len)?;
-    append_group(out, 1 << 14, len)?;
-    append_group(out, 1 << 7, len)?;
-    out.push((len % 128) as u8)?;
-    Ok(())
+    push_bytes(out, &[tag]);
+    push_group(out, 1 << 21, len);
+    push_group(out, 1 << 14, len);
+    push_group(out, 1 << 7, len);
+    push_bytes(out, &[(len % 128) as u8]);
 }

@@ -1,14 +1,15 @@
 //! Sample entries as they stand in a file (ISO/IEC 14496-12, 8.5.2).
 
 ghost use Rattle.std.specs.Prelude.{◌≡◌, ◌+◌, ◌<◌, ◌≤◌, ◌^◌, length, Ok, IfOk, false};
-ghost use Rattle.mp_ports.specs.Answer.{Checks, Gives};
+ghost use Rattle.mp_ports.specs.Checks.{Checks};
+ghost use Rattle.mp_ports.specs.Gives.{Gives, refusal};
 ghost use Rattle.mp_boxes.specs.declared.head.TopHead.{TopHead};
-ghost use Rattle.mp_boxes.specs.Head.{head_at, box_head};
-ghost use Rattle.mp_entries.specs.Entry.{IsWhole, IsEntry, is_protected};
+ghost use Rattle.mp_boxes.specs.Head.{IsWhole, head_at, box_head};
+ghost use Rattle.mp_entries.specs.Entry.{IsEntry, is_protected};
 ghost use Rattle.mp_entries.specs.Kept.{entry_fault, kept_entry, with_first_reference};
 
 use crate::law::head_stays;
-use mp_boxes::{BoxHead, Field, append_fields, next_box, u16_in};
+use mp_boxes::{BoxHead, next_box, u16_in};
 use mp_ports::{Bad, Code, Fail};
 use std::alloc::{AllocError, Global};
 
@@ -58,13 +59,8 @@ fn with_first_reference(alloc: Global, bytes: &[u8], from: usize) -> Result<Vec<
     ensures { IfOk result (λ entry. entry.items ≡ with_first_reference from bytes.now) }
 {
     let index = from + 6;
-    let fields = [
-        Field::Bytes(&bytes[..index]),
-        Field::U16(1),
-        Field::Bytes(&bytes[index + 2..]),
-    ];
-    let mut entry = Vec::with_capacity(alloc, bytes.len())?;
-    append_fields(&mut entry, &fields)?;
+    let mut entry = Vec::from_slice(alloc, bytes)?;
+    entry[index..index + 2].copy_from_slice(&1u16.to_be_bytes());
     Ok(entry)
 }
 
@@ -76,7 +72,7 @@ fn with_first_reference(alloc: Global, bytes: &[u8], from: usize) -> Result<Vec<
 pub fn read_entry(alloc: Global, bytes: &[u8], base: u64, local: &[bool]) -> Result<Vec<u8>, Fail>
     requires whole { IsWhole bytes.now }
     requires place { base + length bytes.now < 2 ^ 64 }
-    ensures kept { Gives (λ entry. entry.items) result (kept_entry base bytes.now local.now) }
+    ensures kept { Gives refusal (λ entry. entry.items) result (kept_entry base bytes.now local.now) }
     ensures well_formed { IfOk result (λ entry. IsEntry entry.items) }
 {
     let head = whole_head(bytes, base);

@@ -1,34 +1,42 @@
 //! Why what is answered is a sample entry: calls that do nothing, whose contracts say so.
 
-ghost use Rattle.std.specs.Prelude.{◌≡◌, ℕ, ◌+◌, ◌<◌, ◌^◌, ◌++◌, Bool, List, length, take, slice_index_or, Ok, false, true};
-ghost use Rattle.mp_boxes.specs.declared.head.TopHead.{TopHead};
-ghost use Rattle.mp_boxes.specs.Boxes.{IsBytes};
-ghost use Rattle.mp_boxes.specs.Head.{head_at};
-ghost use Rattle.mp_boxes.specs.Field.{Part, box_bytes};
-ghost use Rattle.mp_boxes.specs.Parts.{HasPlainKind};
-ghost use Rattle.mp_entries.specs.Entry.{IsEntry};
-ghost use Rattle.mp_entries.specs.Kept.{kept_entry};
+ghost use Rattle.mp_entries.specs.Whole.{HeadStays, WrittenIsWhole};
+ghost use Rattle.mp_entries.specs.Kept.{EntriesAreKept};
+ghost use Rattle.mp_entries.specs.Reference.{ReferencesAreRead};
+ghost use Rattle.mp_entries.specs.Description.{DescriptionsAreRead};
 
-use mp_boxes::heads_are_read;
+use mp_boxes::{boxes_are_read, boxes_are_whole, heads_are_read, numbers_are_read};
 
 /// The head of a whole box stays where its body becomes another of the same length.
 pub fn head_stays()
-    ensures { (text body : List ℕ) (head : TopHead) → IsBytes text → head_at false text ≡ Ok head → head.len ≡ length text → head.head + length body ≡ length text
-        → head_at false (take head.head text ++ body) ≡ Ok head }
+    ensures { HeadStays }
 {
     heads_are_read();
 }
 
 /// A box that is written is whole, with a header of 8 bytes.
 pub fn written_is_whole()
-    ensures { (part : Part) → HasPlainKind part → 8 + length part.body < 2 ^ 32
-        → head_at false (box_bytes part) ≡ Ok (record { kind = part.kind; head = 8; len = 8 + length part.body }) }
+    ensures { WrittenIsWhole }
 {
     heads_are_read();
 }
 
 /// An entry of the first data reference is kept as it is, where that data is in the file itself.
 pub fn entries_are_kept()
-    ensures { (base : ℕ) (bytes : List ℕ) (local : List Bool) → IsBytes bytes → IsEntry bytes → slice_index_or local 0 false ≡ true
-        → kept_entry base bytes local ≡ Ok bytes }
+    ensures { EntriesAreKept }
 {}
+
+/// The data reference that is written is read: the data is in this file.
+pub fn references_are_read()
+    ensures { ReferencesAreRead }
+{}
+
+/// The entries that are written are read, each as it is.
+pub fn descriptions_are_read()
+    ensures { DescriptionsAreRead }
+{
+    numbers_are_read();
+    boxes_are_read();
+    boxes_are_whole();
+    entries_are_kept();
+}

@@ -1,4 +1,5 @@
-// Common divisors and multiples.
+//! Common divisors and multiples.
+
 ghost use Rattle.std.specs.Prelude.{◌≡◌, [], ◌∷◌, ◌<◌};
 ghost use Rattle.mp_frac.specs.Divisors.{IsGreatestCommon, IsLeastCommon, LimitedBy, most, up_to};
 

@@ -1,4 +1,5 @@
-// The law of times: a call that does nothing, whose contract is the law.
+//! The law of times: a call that does nothing, whose contract is the law.
+
 ghost use Rattle.mp_frac.specs.Law.{WholenessIsDivision};
 
 /// A time is whole in a scale exactly where its `d` divides its ticks times the scale.

@@ -1,4 +1,5 @@
-// The answers were computed by an independent script over whole fractions.
+//! The answers were computed by an independent script over whole fractions.
+
 ghost use Rattle.mp_frac.specs.Time.{IsInRange};
 
 use crate::{Frac, compare, gcd, lcm, least_multiple, whole_in};

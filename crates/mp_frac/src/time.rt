@@ -1,4 +1,5 @@
-// Times, in seconds.
+//! Times, in seconds.
+
 ghost use Rattle.std.specs.Prelude.{◌≡◌, ◌<◌, pos, ◌*ℤ◌};
 ghost use Rattle.mp_frac.specs.Divisors.{LimitedBy, most};
 ghost use Rattle.mp_frac.specs.Time.{GivesTicks, IsLeastWhole, IsInRange, order};

@@ -41,7 +41,7 @@ long (a ∷ b ∷ []) name e = absurd cc
 long (a ∷ b ∷ c ∷ []) name e = absurd cc
 long (a ∷ b ∷ c ∷ d ∷ x ∷ xs) name e = absurd cc
 
-pub hdlr-read : (handler name : List ℕ) (base : ℕ) → IsHandler handler → hdlr_of base (hdlr handler name).body ≡ Ok handler
-hdlr-read handler name base h =
+pub hdlr-read : (name handler : List ℕ) (base : ℕ) → IsHandler handler → hdlr_of base (hdlr handler name).body ≡ Ok handler
+hdlr-read name handler base h =
     let enough : ltb (length (hdlr handler name).body) name_place ≡ false = le-ltb _ _ (long handler name h.four) in
     rw (enough, handler-read handler name h.four, differ handler (codes "hint") h.not_hint) refl

@@ -1,8 +1,7 @@
-mod Whole
-mod Checks
-mod Behind
+mod Starts
 mod MediaHeaders
 mod MovieHeaders
 mod TrackHeaders
 mod Handlers
-mod OneBox
+mod Pushed
+mod ByHandler

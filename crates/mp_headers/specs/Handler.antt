@@ -4,7 +4,7 @@ use Rattle.std.specs.Str.{bytes_eq}
 use Rattle.mp_ports.specs.declared.code.Code.{Code}
 use Rattle.mp_ports.specs.declared.code.Code.TheVariants.{HintTrack, TableLength}
 use Rattle.mp_ports.specs.declared.fault.Bad.{Bad}
-use Rattle.mp_ports.specs.Answer.{first_code, unless, placed}
+use Rattle.mp_ports.specs.Checks.{first_code, unless, placed}
 use Rattle.mp_boxes.specs.Field.{Part, leaf, raw, version_and_flags, zeros}
 use Rattle.mp_boxes.specs.Number.{kind_at}
 use Rattle.mp_boxes.specs.FullBox.{first_field}

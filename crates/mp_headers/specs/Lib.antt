@@ -7,5 +7,4 @@ pub mod TrackHeader
 pub mod MediaHeader
 pub mod Handler
 pub mod MediaInformation
-pub mod DataReference
-pub mod Written
+pub mod Laws

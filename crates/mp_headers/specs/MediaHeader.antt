@@ -1,17 +1,16 @@
 -- The media header (ISO/IEC 14496-12, 8.4.2).
-use Rattle.std.specs.Prelude.{ℕ, ◌+◌, ◌^◌, ◌<◌, Bool, ◌==◌, List, [], ◌∷◌, ◌++◌, codes, Option, Result}
+use Rattle.std.specs.Prelude.{ℕ, ◌^◌, ◌<◌, Bool, ◌==◌, List, [], ◌∷◌, drop, codes, Result}
 use Rattle.mp_ports.specs.declared.code.Code.{Code}
 use Rattle.mp_ports.specs.declared.code.Code.TheVariants.{ScaleZero}
 use Rattle.mp_ports.specs.declared.fault.Bad.{Bad}
-use Rattle.mp_ports.specs.Answer.{first_code, unless, placed}
+use Rattle.mp_ports.specs.Checks.{first_code, unless, ◌>>=◌, placed}
 use Rattle.mp_boxes.specs.declared.field.Field.TheVariants.{U16, U32}
 use Rattle.mp_boxes.specs.Field.{Part, leaf, time, version_and_flags, zeros}
-use Rattle.mp_boxes.specs.Number.{u16_at, u32_at}
-use Rattle.mp_boxes.specs.FullBox.{first_field, full_box_checks}
-use Rattle.mp_headers.specs.Times.{newest_version, has_wide_times, time_at, time_len}
+use Rattle.mp_boxes.specs.Reading.{next_bytes, next_time, next_u16, next_u32, value_or}
+use Rattle.mp_boxes.specs.FullBox.{first_field}
+use Rattle.mp_headers.specs.Times.{wide_times}
 use Rattle.mp_headers.specs.Version.{is_wide}
 use Rattle.mp_headers.specs.declared.media_header.Mdhd.{Mdhd}
-use Rattle.mp_headers.specs.declared.media_header.MdhdPlaces.{MdhdPlaces}
 
 -- version and flags, creation and modification time, timescale, duration, language, predefined
 abbrev pub mdhd : Mdhd → Part
@@ -27,41 +26,29 @@ mdhd m =
     ∷ zeros 2
     ∷ [])
 
--- where the fields of a body stand, each behind the one before it, and where it ends
-abbrev pub mdhd_places : Bool → MdhdPlaces
-mdhd_places wide =
-    let created = first_field in
-    let modified = created + time_len wide in
-    let timescale = modified + time_len wide in
-    let duration = timescale + 4 in
-    let language = duration + time_len wide in
-    let predefined = language + 2 in
-    record { created = created; modified = modified; timescale = timescale; duration = duration; language = language; end = predefined + 2 }
-
--- the fields of a body
-abbrev pub mdhd_fields : List ℕ → Mdhd
-mdhd_fields body =
-    let wide = has_wide_times body in
-    let at = mdhd_places wide in
-    record {
-      created = time_at wide body at.created;
-      modified = time_at wide body at.modified;
-      timescale = u32_at body at.timescale;
-      duration = time_at wide body at.duration;
-      language = u16_at body at.language;
-    }
-
--- the faults of a body, in order
-abbrev pub mdhd_fault : List ℕ → Option Code
-mdhd_fault body =
-    first_code
-    (full_box_checks newest_version (mdhd_places (has_wide_times body)).end body
-    ++ ((mdhd_fields body).timescale == 0, ScaleZero)
-    ∷ [])
+-- the fields behind version and flags, from left to right; the timescale isn't 0
+unfoldable pub mdhd_from : Bool → List ℕ → Result Mdhd Code
+mdhd_from wide text = do
+  created ← next_time wide text
+  modified ← next_time wide created.1
+  timescale ← next_u32 modified.1
+  duration ← next_time wide timescale.1
+  language ← next_u16 duration.1
+  predefined ← next_bytes 2 language.1
+  unless (first_code ((timescale.0 == 0, ScaleZero) ∷ []))
+      (record { created = created.0; modified = modified.0; timescale = timescale.0; duration = duration.0; language = language.0 })
 
 -- the fields of the body of the box at `base`, or its first fault
 abbrev pub mdhd_of : ℕ → List ℕ → Result Mdhd Bad
-mdhd_of base body = placed base (unless (mdhd_fault body) (mdhd_fields body))
+mdhd_of base body = placed base (wide_times body >>= λ wide. mdhd_from wide (drop first_field body))
+
+-- no fields
+abbrev pub no_mdhd : Mdhd
+no_mdhd = record { created = 0; modified = 0; timescale = 0; duration = 0; language = 0 }
+
+-- the fields of a body that has no fault
+abbrev pub mdhd_fields : List ℕ → Mdhd
+mdhd_fields body = value_or no_mdhd (mdhd_of 0 body)
 
 -- each number fits its field, and the timescale isn't 0
 pub record IsMdhd (m : Mdhd) : Type 0 where

@@ -1,18 +1,17 @@
 -- The movie header (ISO/IEC 14496-12, 8.2.2).
-use Rattle.std.specs.Prelude.{◌≡◌, ℕ, ◌+◌, ◌^◌, ◌<◌, Bool, ◌==◌, List, [], ◌∷◌, ◌++◌, length, codes, Option, Result}
+use Rattle.std.specs.Prelude.{◌≡◌, ℕ, ◌^◌, ◌<◌, Bool, ◌==◌, List, [], ◌∷◌, length, drop, codes, Result}
 use Rattle.mp_ports.specs.declared.code.Code.{Code}
 use Rattle.mp_ports.specs.declared.code.Code.TheVariants.{ScaleZero}
 use Rattle.mp_ports.specs.declared.fault.Bad.{Bad}
-use Rattle.mp_ports.specs.Answer.{first_code, unless, placed}
+use Rattle.mp_ports.specs.Checks.{first_code, unless, ◌>>=◌, placed}
 use Rattle.mp_boxes.specs.declared.field.Field.TheVariants.{U16, U32}
 use Rattle.mp_boxes.specs.Field.{Part, leaf, raw, time, version_and_flags, zeros}
-use Rattle.mp_boxes.specs.Number.{u16_at, u32_at}
-use Rattle.mp_boxes.specs.FullBox.{first_field, full_box_checks}
-use Rattle.mp_headers.specs.Times.{newest_version, has_wide_times, time_at, time_len}
-use Rattle.mp_headers.specs.Matrix.{matrix_at, matrix_len}
+use Rattle.mp_boxes.specs.Reading.{next_bytes, next_time, next_u16, next_u32, value_or}
+use Rattle.mp_boxes.specs.FullBox.{first_field}
+use Rattle.mp_headers.specs.Times.{wide_times}
+use Rattle.mp_headers.specs.Matrix.{matrix_len}
 use Rattle.mp_headers.specs.Version.{is_wide}
 use Rattle.mp_headers.specs.declared.movie_header.Mvhd.{Mvhd}
-use Rattle.mp_headers.specs.declared.movie_header.MvhdPlaces.{MvhdPlaces}
 
 -- version and flags, creation and modification time, timescale, duration, rate, volume, reserved,
 -- matrix, predefined, next track number
@@ -33,58 +32,42 @@ mvhd m =
     ∷ U32 m.next_track
     ∷ [])
 
--- where the fields of a body stand, each behind the one before it, and where it ends
-abbrev pub mvhd_places : Bool → MvhdPlaces
-mvhd_places wide =
-    let created = first_field in
-    let modified = created + time_len wide in
-    let timescale = modified + time_len wide in
-    let duration = timescale + 4 in
-    let rate = duration + time_len wide in
-    let volume = rate + 4 in
-    let reserved = volume + 2 in
-    let matrix = reserved + 10 in
-    let predefined = matrix + matrix_len in
-    let next_track = predefined + 24 in
-    record {
-      created = created;
-      modified = modified;
-      timescale = timescale;
-      duration = duration;
-      rate = rate;
-      volume = volume;
-      matrix = matrix;
-      next_track = next_track;
-      end = next_track + 4;
-    }
-
--- the fields of a body
-abbrev pub mvhd_fields : List ℕ → Mvhd
-mvhd_fields body =
-    let wide = has_wide_times body in
-    let at = mvhd_places wide in
-    record {
-      created = time_at wide body at.created;
-      modified = time_at wide body at.modified;
-      timescale = u32_at body at.timescale;
-      duration = time_at wide body at.duration;
-      rate = u32_at body at.rate;
-      volume = u16_at body at.volume;
-      matrix = matrix_at body at.matrix;
-      next_track = u32_at body at.next_track;
-    }
-
--- the faults of a body, in order
-abbrev pub mvhd_fault : List ℕ → Option Code
-mvhd_fault body =
-    first_code
-    (full_box_checks newest_version (mvhd_places (has_wide_times body)).end body
-    ++ ((mvhd_fields body).timescale == 0, ScaleZero)
-    ∷ [])
+-- the fields behind version and flags, from left to right; the timescale isn't 0
+unfoldable pub mvhd_from : Bool → List ℕ → Result Mvhd Code
+mvhd_from wide text = do
+  created ← next_time wide text
+  modified ← next_time wide created.1
+  timescale ← next_u32 modified.1
+  duration ← next_time wide timescale.1
+  rate ← next_u32 duration.1
+  volume ← next_u16 rate.1
+  reserved ← next_bytes 10 volume.1
+  matrix ← next_bytes matrix_len reserved.1
+  predefined ← next_bytes 24 matrix.1
+  next_track ← next_u32 predefined.1
+  unless (first_code ((timescale.0 == 0, ScaleZero) ∷ []))
+      (record {
+        created = created.0;
+        modified = modified.0;
+        timescale = timescale.0;
+        duration = duration.0;
+        rate = rate.0;
+        volume = volume.0;
+        matrix = matrix.0;
+        next_track = next_track.0;
+      })
 
 -- the fields of the body of the box at `base`, or its first fault
 abbrev pub mvhd_of : ℕ → List ℕ → Result Mvhd Bad
-mvhd_of base body = placed base (unless (mvhd_fault body) (mvhd_fields body))
+mvhd_of base body = placed base (wide_times body >>= λ wide. mvhd_from wide (drop first_field body))
+
+-- no fields
+abbrev pub no_mvhd : Mvhd
+no_mvhd = record { created = 0; modified = 0; timescale = 0; duration = 0; rate = 0; volume = 0; matrix = []; next_track = 0 }
+
+-- the fields of a body that has no fault
+abbrev pub mvhd_fields : List ℕ → Mvhd
+mvhd_fields body = value_or no_mvhd (mvhd_of 0 body)
 
 -- each number fits its field, and the timescale isn't 0
 pub record IsMvhd (m : Mvhd) : Type 0 where

@@ -1,17 +1,16 @@
 -- The track header (ISO/IEC 14496-12, 8.3.2).
-use Rattle.std.specs.Prelude.{◌≡◌, ℕ, ◌+◌, ◌^◌, ◌<◌, Bool, List, [], ◌∷◌, length, codes, Option, Result}
+use Rattle.std.specs.Prelude.{◌≡◌, ℕ, ◌^◌, ◌<◌, Bool, List, [], ◌∷◌, length, drop, codes, Result, Ok}
 use Rattle.mp_ports.specs.declared.code.Code.{Code}
 use Rattle.mp_ports.specs.declared.fault.Bad.{Bad}
-use Rattle.mp_ports.specs.Answer.{first_code, unless, placed}
+use Rattle.mp_ports.specs.Checks.{◌>>=◌, placed}
 use Rattle.mp_boxes.specs.declared.field.Field.TheVariants.{U16, U32}
 use Rattle.mp_boxes.specs.Field.{Part, leaf, raw, time, version_and_flags, zeros}
-use Rattle.mp_boxes.specs.Number.{u16_at, u32_at}
-use Rattle.mp_boxes.specs.FullBox.{first_field, flags, full_box_checks}
-use Rattle.mp_headers.specs.Times.{newest_version, has_wide_times, time_at, time_len}
-use Rattle.mp_headers.specs.Matrix.{matrix_at, matrix_len}
+use Rattle.mp_boxes.specs.Reading.{next_bytes, next_time, next_u16, next_u32, value_or}
+use Rattle.mp_boxes.specs.FullBox.{first_field, flags}
+use Rattle.mp_headers.specs.Times.{wide_times}
+use Rattle.mp_headers.specs.Matrix.{matrix_len}
 use Rattle.mp_headers.specs.Version.{is_wide}
 use Rattle.mp_headers.specs.declared.track_header.Tkhd.{Tkhd}
-use Rattle.mp_headers.specs.declared.track_header.TkhdPlaces.{TkhdPlaces}
 
 -- version and flags, creation and modification time, track number, reserved, duration, reserved,
 -- layer, alternate group, volume, reserved, matrix, width, height
@@ -35,62 +34,48 @@ tkhd t =
     ∷ U32 t.height
     ∷ [])
 
--- where the fields of a body stand, each behind the one before it, and where it ends
-abbrev pub tkhd_places : Bool → TkhdPlaces
-tkhd_places wide =
-    let created = first_field in
-    let modified = created + time_len wide in
-    let number = modified + time_len wide in
-    let reserved = number + 4 in
-    let duration = reserved + 4 in
-    let reserved = duration + time_len wide in
-    let layer = reserved + 8 in
-    let group = layer + 2 in
-    let volume = group + 2 in
-    let reserved = volume + 2 in
-    let matrix = reserved + 2 in
-    let width = matrix + matrix_len in
-    let height = width + 4 in
-    record {
-      created = created;
-      modified = modified;
-      number = number;
-      duration = duration;
-      layer = layer;
-      group = group;
-      volume = volume;
-      matrix = matrix;
-      width = width;
-      height = height;
-      end = height + 4;
-    }
-
--- the fields of a body
-abbrev pub tkhd_fields : List ℕ → Tkhd
-tkhd_fields body =
-    let wide = has_wide_times body in
-    let at = tkhd_places wide in
-    record {
-      flags = flags body;
-      created = time_at wide body at.created;
-      modified = time_at wide body at.modified;
-      number = u32_at body at.number;
-      duration = time_at wide body at.duration;
-      layer = u16_at body at.layer;
-      group = u16_at body at.group;
-      volume = u16_at body at.volume;
-      matrix = matrix_at body at.matrix;
-      width = u32_at body at.width;
-      height = u32_at body at.height;
-    }
-
--- the faults of a body, in order
-abbrev pub tkhd_fault : List ℕ → Option Code
-tkhd_fault body = first_code (full_box_checks newest_version (tkhd_places (has_wide_times body)).end body)
+-- the fields behind version and these flags, from left to right
+unfoldable pub tkhd_from : ℕ → Bool → List ℕ → Result Tkhd Code
+tkhd_from flags wide text = do
+  created ← next_time wide text
+  modified ← next_time wide created.1
+  number ← next_u32 modified.1
+  reserved ← next_bytes 4 number.1
+  duration ← next_time wide reserved.1
+  reserved ← next_bytes 8 duration.1
+  layer ← next_u16 reserved.1
+  group ← next_u16 layer.1
+  volume ← next_u16 group.1
+  reserved ← next_bytes 2 volume.1
+  matrix ← next_bytes matrix_len reserved.1
+  width ← next_u32 matrix.1
+  height ← next_u32 width.1
+  Ok
+      (record {
+        flags = flags;
+        created = created.0;
+        modified = modified.0;
+        number = number.0;
+        duration = duration.0;
+        layer = layer.0;
+        group = group.0;
+        volume = volume.0;
+        matrix = matrix.0;
+        width = width.0;
+        height = height.0;
+      })
 
 -- the fields of the body of the box at `base`, or its first fault
 abbrev pub tkhd_of : ℕ → List ℕ → Result Tkhd Bad
-tkhd_of base body = placed base (unless (tkhd_fault body) (tkhd_fields body))
+tkhd_of base body = placed base (wide_times body >>= λ wide. tkhd_from (flags body) wide (drop first_field body))
+
+-- no fields
+abbrev pub no_tkhd : Tkhd
+no_tkhd = record { flags = 0; created = 0; modified = 0; number = 0; duration = 0; layer = 0; group = 0; volume = 0; matrix = []; width = 0; height = 0 }
+
+-- the fields of a body that has no fault
+abbrev pub tkhd_fields : List ℕ → Tkhd
+tkhd_fields body = value_or no_tkhd (tkhd_of 0 body)
 
 -- each number fits its field
 pub record IsTkhd (t : Tkhd) : Type 0 where

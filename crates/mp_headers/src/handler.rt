@@ -1,10 +1,12 @@
-// The handler reference box.
-ghost use Rattle.std.specs.Prelude.{◌≡◌, ◌+◌, ◌<◌, ◌≤◌, ◌^◌, length};
-ghost use Rattle.mp_boxes.specs.Field.{box_bytes};
-ghost use Rattle.mp_boxes.specs.Front.{IsFilled};
+//! The handler reference box.
+
+ghost use Rattle.std.specs.Prelude.{◌≡◌};
+ghost use Rattle.mp_boxes.specs.Field.{body_bytes, box_bytes};
+ghost use Rattle.mp_boxes.specs.Push.{IsPushed};
+ghost use Rattle.mp_boxes.specs.Table.{HasLen};
 ghost use Rattle.mp_headers.specs.Handler.{hdlr, hdlr_of};
 
-use mp_boxes::{FIRST_FIELD, Field, kind_in, put_box};
+use mp_boxes::{FIRST_FIELD, Field, box_len, kind_in, push_box};
 use mp_ports::{Bad, Code};
 
 const HANDLER_PLACE: usize = FIRST_FIELD + 4;
@@ -27,29 +29,31 @@ pub fn read_hdlr(body: &[u8], base: u64) -> Result<[u8; 4], Bad>
     Ok(handler)
 }
 
-/// Writes the box `hdlr` at the front of `out`, and answers its length (ISO/IEC 14496-12, 8.4.3).
-///
-/// `name` is written as it is: it should end in a zero byte.
-pub fn put_hdlr(out: &mut [u8], handler: [u8; 4], name: &[u8]) -> usize
-    requires size { 8 + length (hdlr handler name.now).body < 2 ^ 32 }
-    requires room { 8 + length (hdlr handler name.now).body ≤ length out.old }
-    ensures { IsFilled out.old out.new result (box_bytes (hdlr handler name.now)) }
+/// The length of the box `hdlr` of this handler and name.
+pub fn hdlr_len(handler: &[u8; 4], name: &[u8]) -> u64
+    ensures { HasLen result (hdlr handler.now name.now) }
 {
-    put_named(out, &handler, name)
+    box_len(&written(handler, name), 0)
 }
 
-// The two references live equally long here, as fields of one list.
-fn put_named<'a>(out: &mut [u8], handler: &'a [u8; 4], name: &'a [u8]) -> usize
-    requires size { 8 + length (hdlr handler.now name.now).body < 2 ^ 32 }
-    requires room { 8 + length (hdlr handler.now name.now).body ≤ length out.old }
-    ensures { IsFilled out.old out.new result (box_bytes (hdlr handler.now name.now)) }
+/// Pushes the box `hdlr` of this handler and name (ISO/IEC 14496-12, 8.4.3).
+///
+/// `name` is written as it is: it should end in a zero byte.
+pub fn push_hdlr(handler: &[u8; 4], name: &[u8], out: &mut Vec<u8>)
+    ensures { IsPushed out.old out.new (box_bytes (hdlr handler.now name.now)) }
 {
-    let fields = [
+    push_box(out, *b"hdlr", &written(handler, name));
+}
+
+/// The fields as they are written.
+fn written<'a>(handler: &'a [u8; 4], name: &'a [u8]) -> [Field<'a>; 5]
+    ensures { body_bytes result ≡ (hdlr handler.now name.now).body }
+{
+    [
         Field::version_and_flags(false, 0),
         Field::Bytes(&[0; 4]),
         Field::Bytes(handler),
         Field::Bytes(&[0; 12]),
         Field::Bytes(name),
-    ];
-    put_box(out, *b"hdlr", &fields)
+    ]
 }

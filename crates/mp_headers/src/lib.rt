@@ -1,11 +1,11 @@
-//! The header boxes of a movie and of its tracks: read in both versions, and written as the file has them.
+//! The header boxes of a movie and of its tracks (ISO/IEC 14496-12, 8.2.2, 8.3.2, 8.4.2, 8.4.3), read in
+//! both versions, and written; and `ftyp` (4.3) and the media header (8.4.5), which are only written.
 //!
-//! Each box is a list of fields in `specs/`, and is written by that list. Each reader gives the fields at
-//! the places of the standard's tables (ISO/IEC 14496-12, 8.2.2, 8.3.2, 8.4.2 and 8.4.3), or the first
-//! fault: a version that isn't read, a body that is too short, a timescale of 0, a handler of hints.
+//! Each box is a list of fields in `specs/`, and is pushed by that list, behind its length. Each reader
+//! gives the fields from left to right, or the first fault: a body that is too short, a version that
+//! isn't read, a timescale of 0, a handler of hints.
 #![tactic(auto)]
 
-mod data_reference;
 mod file_type;
 mod handler;
 mod law;
@@ -19,11 +19,10 @@ mod times;
 mod track_header;
 mod version;
 
-pub use data_reference::put_dinf;
-pub use file_type::put_ftyp;
-pub use handler::{put_hdlr, read_hdlr};
-pub use law::{headers_are_boxes, headers_are_read};
-pub use media_header::{Mdhd, put_mdhd, read_mdhd};
-pub use media_information::put_media_header;
-pub use movie_header::{Mvhd, put_mvhd, read_mvhd};
-pub use track_header::{Tkhd, put_tkhd, read_tkhd};
+pub use file_type::{ftyp_len, push_ftyp};
+pub use handler::{hdlr_len, push_hdlr, read_hdlr};
+pub use law::headers_are_read;
+pub use media_header::{Mdhd, mdhd_len, push_mdhd, read_mdhd};
+pub use media_information::{media_header_len, push_media_header};
+pub use movie_header::{Mvhd, mvhd_len, push_mvhd, read_mvhd};
+pub use track_header::{Tkhd, push_tkhd, read_tkhd, tkhd_len};

@@ -1,12 +1,14 @@
-// The media header.
-ghost use Rattle.std.specs.Prelude.{◌≡◌, ◌+◌, ◌≤◌, length};
-ghost use Rattle.mp_boxes.specs.Field.{box_bytes};
-ghost use Rattle.mp_boxes.specs.Front.{IsFilled};
-ghost use Rattle.mp_headers.specs.MediaHeader.{mdhd, mdhd_of, mdhd_places};
+//! The media header.
 
-use crate::times::{has_wide_times, time_in, time_len};
+ghost use Rattle.std.specs.Prelude.{◌≡◌};
+ghost use Rattle.mp_boxes.specs.Field.{body_bytes, box_bytes};
+ghost use Rattle.mp_boxes.specs.Push.{IsPushed};
+ghost use Rattle.mp_boxes.specs.Table.{HasLen};
+ghost use Rattle.mp_headers.specs.MediaHeader.{mdhd, mdhd_from, mdhd_of};
+
+use crate::times::wide_times;
 use crate::version::is_wide;
-use mp_boxes::{FIRST_FIELD, Field, put_box, u16_in, u32_in};
+use mp_boxes::{FIRST_FIELD, Field, box_len, next_bytes, next_time, next_u16, next_u32, push_box};
 use mp_ports::{Bad, Code};
 
 /// The fields of `mdhd` (ISO/IEC 14496-12, 8.4.2).
@@ -29,67 +31,59 @@ pub struct Mdhd {
 pub fn read_mdhd(body: &[u8], base: u64) -> Result<Mdhd, Bad>
     ensures { result ≡ mdhd_of base body.now }
 {
-    let wide = has_wide_times(body, base)?;
-    let at = places(wide);
-    if body.len() < at.end {
-        return Err(Bad::at(Code::TableLength, base));
-    }
-    if u32_in(body, at.timescale) == 0 {
-        return Err(Bad::at(Code::ScaleZero, base));
+    let wide = wide_times(body, base)?;
+    fields_of(wide, &body[FIRST_FIELD..]).map_err(|code| Bad::at(code, base))
+}
+
+/// The fields behind version and flags.
+#[tactic(auto, unfolding(crate::specs::MediaHeader::mdhd_from))]
+fn fields_of(wide: bool, text: &[u8]) -> Result<Mdhd, Code>
+    ensures { result ≡ mdhd_from wide text.now }
+{
+    let (created, rest) = next_time(text, wide)?;
+    let (modified, rest) = next_time(rest, wide)?;
+    let (timescale, rest) = next_u32(rest)?;
+    let (duration, rest) = next_time(rest, wide)?;
+    let (language, rest) = next_u16(rest)?;
+    next_bytes(rest, 2)?;
+    if timescale == 0 {
+        return Err(Code::ScaleZero);
     }
     Ok(Mdhd {
-        created: time_in(body, at.created, wide),
-        modified: time_in(body, at.modified, wide),
-        timescale: u32_in(body, at.timescale),
-        duration: time_in(body, at.duration, wide),
-        language: u16_in(body, at.language),
-    })
-}
-
-// Where the fields of a body stand, and where it ends.
-#[derive(Drop)]
-struct MdhdPlaces {
-    created: usize,
-    modified: usize,
-    timescale: usize,
-    duration: usize,
-    language: usize,
-    end: usize,
-}
-
-fn places(wide: bool) -> MdhdPlaces
-    ensures { result ≡ mdhd_places wide }
-{
-    let created = FIRST_FIELD;
-    let modified = created + time_len(wide);
-    let timescale = modified + time_len(wide);
-    let duration = timescale + 4;
-    let language = duration + time_len(wide);
-    let predefined = language + 2;
-    MdhdPlaces {
         created,
         modified,
         timescale,
         duration,
         language,
-        end: predefined + 2,
-    }
+    })
 }
 
-/// Writes the box `mdhd` at the front of `out`, and answers its length.
-pub fn put_mdhd(out: &mut [u8], fields: &Mdhd) -> usize
-    requires room { 8 + length (mdhd fields.now).body ≤ length out.old }
-    ensures { IsFilled out.old out.new result (box_bytes (mdhd fields.now)) }
+/// The length of the box `mdhd` of these fields.
+pub fn mdhd_len(head: &Mdhd) -> u64
+    ensures { HasLen result (mdhd head.now) }
 {
-    let wide = is_wide(fields.created, fields.modified, fields.duration);
-    let fields = [
+    box_len(&written(head), 0)
+}
+
+/// Pushes the box `mdhd` of these fields.
+pub fn push_mdhd(head: &Mdhd, out: &mut Vec<u8>)
+    ensures { IsPushed out.old out.new (box_bytes (mdhd head.now)) }
+{
+    push_box(out, *b"mdhd", &written(head));
+}
+
+/// The fields as they are written.
+fn written(head: &Mdhd) -> [Field<'_>; 7]
+    ensures { body_bytes result ≡ (mdhd head.now).body }
+{
+    let wide = is_wide(head.created, head.modified, head.duration);
+    [
         Field::version_and_flags(wide, 0),
-        Field::time(wide, fields.created),
-        Field::time(wide, fields.modified),
-        Field::U32(fields.timescale),
-        Field::time(wide, fields.duration),
-        Field::U16(fields.language),
+        Field::time(wide, head.created),
+        Field::time(wide, head.modified),
+        Field::U32(head.timescale),
+        Field::time(wide, head.duration),
+        Field::U16(head.language),
         Field::Bytes(&[0; 2]),
-    ];
-    put_box(out, *b"mdhd", &fields)
+    ]
 }

@@ -1,26 +1,40 @@
-// The media information header of a track.
-ghost use Rattle.std.specs.Prelude.{◌+◌, ◌≤◌, length};
+//! The media information header of a track.
+
 ghost use Rattle.mp_boxes.specs.Field.{box_bytes};
-ghost use Rattle.mp_boxes.specs.Front.{IsFilled};
+ghost use Rattle.mp_boxes.specs.Push.{IsPushed};
+ghost use Rattle.mp_boxes.specs.Table.{HasLen};
 ghost use Rattle.mp_headers.specs.MediaInformation.{media_header};
 
-use mp_boxes::{Field, put_box};
+use mp_boxes::{Field, box_len, push_box};
 
-/// Writes the media header that goes with this handler at the front of `out`, and answers its length:
-/// `vmhd` for `vide`, `smhd` for `soun`, `sthd` for `subt`, else `nmhd` (ISO/IEC 14496-12, 8.4.5).
-pub fn put_media_header(out: &mut [u8], handler: [u8; 4]) -> usize
-    requires room { 8 + length (media_header handler).body ≤ length out.old }
-    ensures { IsFilled out.old out.new result (box_bytes (media_header handler)) }
+/// The length of the media header that goes with this handler.
+pub fn media_header_len(handler: [u8; 4]) -> u64
+    ensures { HasLen result (media_header handler) }
+{
+    let plain = Field::version_and_flags(false, 0);
+    if handler == *b"vide" {
+        box_len(&[plain, Field::Bytes(&[0; 8])], 0)
+    } else if handler == *b"soun" {
+        box_len(&[plain, Field::Bytes(&[0; 4])], 0)
+    } else {
+        box_len(&[plain], 0)
+    }
+}
+
+/// Pushes the media header that goes with this handler: `vmhd` for `vide`, `smhd` for `soun`, `sthd` for
+/// `subt`, else `nmhd` (ISO/IEC 14496-12, 8.4.5).
+pub fn push_media_header(handler: [u8; 4], out: &mut Vec<u8>)
+    ensures { IsPushed out.old out.new (box_bytes (media_header handler)) }
 {
     let plain = Field::version_and_flags(false, 0);
     if handler == *b"vide" {
         let fields = [Field::version_and_flags(false, 1), Field::Bytes(&[0; 8])];
-        put_box(out, *b"vmhd", &fields)
+        push_box(out, *b"vmhd", &fields);
     } else if handler == *b"soun" {
-        put_box(out, *b"smhd", &[plain, Field::Bytes(&[0; 4])])
+        push_box(out, *b"smhd", &[plain, Field::Bytes(&[0; 4])]);
     } else if handler == *b"subt" {
-        put_box(out, *b"sthd", &[plain])
+        push_box(out, *b"sthd", &[plain]);
     } else {
-        put_box(out, *b"nmhd", &[plain])
+        push_box(out, *b"nmhd", &[plain]);
     }
 }

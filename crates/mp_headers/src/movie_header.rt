@@ -1,13 +1,15 @@
-// The movie header.
-ghost use Rattle.std.specs.Prelude.{◌≡◌, ◌+◌, ◌≤◌, length};
-ghost use Rattle.mp_boxes.specs.Field.{box_bytes};
-ghost use Rattle.mp_boxes.specs.Front.{IsFilled};
-ghost use Rattle.mp_headers.specs.MovieHeader.{mvhd, mvhd_of, mvhd_places};
+//! The movie header.
 
-use crate::matrix::{MATRIX_LEN, matrix_in};
-use crate::times::{has_wide_times, time_in, time_len};
+ghost use Rattle.std.specs.Prelude.{◌≡◌};
+ghost use Rattle.mp_boxes.specs.Field.{body_bytes, box_bytes};
+ghost use Rattle.mp_boxes.specs.Push.{IsPushed};
+ghost use Rattle.mp_boxes.specs.Table.{HasLen};
+ghost use Rattle.mp_headers.specs.MovieHeader.{mvhd, mvhd_from, mvhd_of};
+
+use crate::matrix::{MATRIX_LEN, next_matrix};
+use crate::times::wide_times;
 use crate::version::is_wide;
-use mp_boxes::{FIRST_FIELD, Field, put_box, u16_in, u32_in};
+use mp_boxes::{FIRST_FIELD, Field, box_len, next_bytes, next_time, next_u16, next_u32, push_box};
 use mp_ports::{Bad, Code};
 
 /// The fields of `mvhd` (ISO/IEC 14496-12, 8.2.2).
@@ -33,54 +35,29 @@ pub struct Mvhd {
 pub fn read_mvhd(body: &[u8], base: u64) -> Result<Mvhd, Bad>
     ensures { result ≡ mvhd_of base body.now }
 {
-    let wide = has_wide_times(body, base)?;
-    let at = places(wide);
-    if body.len() < at.end {
-        return Err(Bad::at(Code::TableLength, base));
-    }
-    if u32_in(body, at.timescale) == 0 {
-        return Err(Bad::at(Code::ScaleZero, base));
+    let wide = wide_times(body, base)?;
+    fields_of(wide, &body[FIRST_FIELD..]).map_err(|code| Bad::at(code, base))
+}
+
+/// The fields behind version and flags.
+#[tactic(auto, unfolding(crate::specs::MovieHeader::mvhd_from))]
+fn fields_of(wide: bool, text: &[u8]) -> Result<Mvhd, Code>
+    ensures { result ≡ mvhd_from wide text.now }
+{
+    let (created, rest) = next_time(text, wide)?;
+    let (modified, rest) = next_time(rest, wide)?;
+    let (timescale, rest) = next_u32(rest)?;
+    let (duration, rest) = next_time(rest, wide)?;
+    let (rate, rest) = next_u32(rest)?;
+    let (volume, rest) = next_u16(rest)?;
+    let (_reserved, rest) = next_bytes(rest, 10)?;
+    let (matrix, rest) = next_matrix(rest)?;
+    let (_predefined, rest) = next_bytes(rest, 24)?;
+    let (next_track, _) = next_u32(rest)?;
+    if timescale == 0 {
+        return Err(Code::ScaleZero);
     }
     Ok(Mvhd {
-        created: time_in(body, at.created, wide),
-        modified: time_in(body, at.modified, wide),
-        timescale: u32_in(body, at.timescale),
-        duration: time_in(body, at.duration, wide),
-        rate: u32_in(body, at.rate),
-        volume: u16_in(body, at.volume),
-        matrix: matrix_in(body, at.matrix),
-        next_track: u32_in(body, at.next_track),
-    })
-}
-
-// Where the fields of a body stand, and where it ends.
-#[derive(Drop)]
-struct MvhdPlaces {
-    created: usize,
-    modified: usize,
-    timescale: usize,
-    duration: usize,
-    rate: usize,
-    volume: usize,
-    matrix: usize,
-    next_track: usize,
-    end: usize,
-}
-
-fn places(wide: bool) -> MvhdPlaces
-    ensures { result ≡ mvhd_places wide }
-{
-    let created = FIRST_FIELD;
-    let modified = created + time_len(wide);
-    let timescale = modified + time_len(wide);
-    let duration = timescale + 4;
-    let rate = duration + time_len(wide);
-    let volume = rate + 4;
-    let reserved = volume + 2;
-    let matrix = reserved + 10;
-    let predefined = matrix + MATRIX_LEN;
-    let next_track = predefined + 24;
-    MvhdPlaces {
         created,
         modified,
         timescale,
@@ -89,28 +66,39 @@ fn places(wide: bool) -> MvhdPlaces
         volume,
         matrix,
         next_track,
-        end: next_track + 4,
-    }
+    })
 }
 
-/// Writes the box `mvhd` at the front of `out`, and answers its length.
-pub fn put_mvhd(out: &mut [u8], fields: &Mvhd) -> usize
-    requires room { 8 + length (mvhd fields.now).body ≤ length out.old }
-    ensures { IsFilled out.old out.new result (box_bytes (mvhd fields.now)) }
+/// The length of the box `mvhd` of these fields.
+pub fn mvhd_len(head: &Mvhd) -> u64
+    ensures { HasLen result (mvhd head.now) }
 {
-    let wide = is_wide(fields.created, fields.modified, fields.duration);
-    let fields = [
+    box_len(&written(head), 0)
+}
+
+/// Pushes the box `mvhd` of these fields.
+pub fn push_mvhd(head: &Mvhd, out: &mut Vec<u8>)
+    ensures { IsPushed out.old out.new (box_bytes (mvhd head.now)) }
+{
+    push_box(out, *b"mvhd", &written(head));
+}
+
+/// The fields as they are written.
+fn written(head: &Mvhd) -> [Field<'_>; 11]
+    ensures { body_bytes result ≡ (mvhd head.now).body }
+{
+    let wide = is_wide(head.created, head.modified, head.duration);
+    [
         Field::version_and_flags(wide, 0),
-        Field::time(wide, fields.created),
-        Field::time(wide, fields.modified),
-        Field::U32(fields.timescale),
-        Field::time(wide, fields.duration),
-        Field::U32(fields.rate),
-        Field::U16(fields.volume),
+        Field::time(wide, head.created),
+        Field::time(wide, head.modified),
+        Field::U32(head.timescale),
+        Field::time(wide, head.duration),
+        Field::U32(head.rate),
+        Field::U16(head.volume),
         Field::Bytes(&[0; 10]),
-        Field::Bytes(&fields.matrix),
+        Field::Bytes(&head.matrix),
         Field::Bytes(&[0; 24]),
-        Field::U32(fields.next_track),
-    ];
-    put_box(out, *b"mvhd", &fields)
+        Field::U32(head.next_track),
+    ]
 }

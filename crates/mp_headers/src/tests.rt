@@ -1,6 +1,10 @@
-// Boxes byte by byte, laid out by hand from the tables of ISO/IEC 14496-12 (8.2.2, 8.3.2, 8.4.2, 8.4.3, 8.4.5, 8.7).
+//! Boxes byte by byte, laid out by hand from the tables of ISO/IEC 14496-12 (8.2.2, 8.3.2, 8.4.2, 8.4.3, 8.4.5).
+
 use crate::*;
-use mp_ports::{Bad, Code};
+use mp_boxes::reserve;
+use mp_ports::{Bad, Code, NoMemory};
+use std::alloc::Global;
+use std::test::Fail as TestFail;
 
 // The numbers 1 to 36, so that no two bytes of the matrix are the same.
 const MATRIX: [u8; 36] = [
@@ -186,10 +190,11 @@ fn refused<T>(code: Code) -> Result<T, Bad> {
     })
 }
 
-// The bytes stand at the front of a buffer of 0xFF, and the rest is as it was.
-fn is_filled(out: &[u8], bytes: &[u8]) -> bool {
-    out.strip_prefix(bytes)
-        .is_some_and(|rest| rest.iter().all(|byte| *byte == 0xFF))
+/// A vector with room for a box of that length.
+fn room(alloc: Global, len: u64) -> Result<Vec<u8>, NoMemory> {
+    let mut out = Vec::new(alloc);
+    reserve(&mut out, u32::try_from(len).unwrap_or(0))?;
+    Ok(out)
 }
 
 fn body(bytes: &[u8]) -> &[u8] {
@@ -201,57 +206,60 @@ fn without_last(bytes: &[u8]) -> &[u8] {
 }
 
 #[test]
-fn movie_headers(rt: HostRuntime) {
+fn movie_headers(rt: HostRuntime) -> Result<(), TestFail> {
     for (fields, bytes) in [
         (MOVIE_NARROW, &MOVIE_NARROW_BYTES[..]),
         (MOVIE_WIDE, &MOVIE_WIDE_BYTES[..]),
     ] {
-        let mut out = [0xFF; 121];
-        assert_eq!(rt; put_mvhd(&mut out, &fields), bytes.len());
-        assert!(rt; is_filled(&out, bytes));
+        assert_eq!(rt; mvhd_len(&fields), bytes.len() as u64);
+        let mut out = room(rt.alloc(), mvhd_len(&fields))?;
+        push_mvhd(&fields, &mut out);
+        assert_eq!(rt; out.as_slice(), bytes);
         assert_eq!(rt; read_mvhd(body(bytes), PLACE), Ok(fields));
-        assert_eq!(rt; read_mvhd(body(&out), PLACE), Ok(fields));
         assert_eq!(rt;
             read_mvhd(without_last(body(bytes)), PLACE),
             refused(Code::TableLength)
         );
     }
+    Ok(())
 }
 
 #[test]
-fn track_headers(rt: HostRuntime) {
+fn track_headers(rt: HostRuntime) -> Result<(), TestFail> {
     for (fields, bytes) in [
         (TRACK_NARROW, &TRACK_NARROW_BYTES[..]),
         (TRACK_WIDE, &TRACK_WIDE_BYTES[..]),
     ] {
-        let mut out = [0xFF; 105];
-        assert_eq!(rt; put_tkhd(&mut out, &fields), bytes.len());
-        assert!(rt; is_filled(&out, bytes));
+        assert_eq!(rt; tkhd_len(&fields), bytes.len() as u64);
+        let mut out = room(rt.alloc(), tkhd_len(&fields))?;
+        push_tkhd(&fields, &mut out);
+        assert_eq!(rt; out.as_slice(), bytes);
         assert_eq!(rt; read_tkhd(body(bytes), PLACE), Ok(fields));
-        assert_eq!(rt; read_tkhd(body(&out), PLACE), Ok(fields));
         assert_eq!(rt;
             read_tkhd(without_last(body(bytes)), PLACE),
             refused(Code::TableLength)
         );
     }
+    Ok(())
 }
 
 #[test]
-fn media_headers(rt: HostRuntime) {
+fn media_headers(rt: HostRuntime) -> Result<(), TestFail> {
     for (fields, bytes) in [
         (MEDIA_NARROW, &MEDIA_NARROW_BYTES[..]),
         (MEDIA_WIDE, &MEDIA_WIDE_BYTES[..]),
     ] {
-        let mut out = [0xFF; 45];
-        assert_eq!(rt; put_mdhd(&mut out, &fields), bytes.len());
-        assert!(rt; is_filled(&out, bytes));
+        assert_eq!(rt; mdhd_len(&fields), bytes.len() as u64);
+        let mut out = room(rt.alloc(), mdhd_len(&fields))?;
+        push_mdhd(&fields, &mut out);
+        assert_eq!(rt; out.as_slice(), bytes);
         assert_eq!(rt; read_mdhd(body(bytes), PLACE), Ok(fields));
-        assert_eq!(rt; read_mdhd(body(&out), PLACE), Ok(fields));
         assert_eq!(rt;
             read_mdhd(without_last(body(bytes)), PLACE),
             refused(Code::TableLength)
         );
     }
+    Ok(())
 }
 
 // All ones in version 0 say that a time isn't known, so such a time takes version 1.
@@ -266,45 +274,35 @@ fn version_by_the_longest_time(rt: HostRuntime) {
     };
     let times = [(0xFFFF_FFFE, 32), (0xFFFF_FFFF, 44), (0x1_0000_0000, 44)];
     for (time, len) in times {
-        let mut out = [0; 44];
         assert_eq!(rt;
-            put_mdhd(
-                &mut out,
-                &Mdhd {
-                    created: time,
-                    ..zero
-                }
-            ),
+            mdhd_len(&Mdhd {
+                created: time,
+                ..zero
+            }),
             len
         );
         assert_eq!(rt;
-            put_mdhd(
-                &mut out,
-                &Mdhd {
-                    modified: time,
-                    ..zero
-                }
-            ),
+            mdhd_len(&Mdhd {
+                modified: time,
+                ..zero
+            }),
             len
         );
         assert_eq!(rt;
-            put_mdhd(
-                &mut out,
-                &Mdhd {
-                    duration: time,
-                    ..zero
-                }
-            ),
+            mdhd_len(&Mdhd {
+                duration: time,
+                ..zero
+            }),
             len
         );
     }
 }
 
 #[test]
-fn handlers(rt: HostRuntime) {
-    let mut out = [0xFF; 37];
-    assert_eq!(rt; put_hdlr(&mut out, *b"soun", b"Abc\0"), HANDLER_BYTES.len());
-    assert!(rt; is_filled(&out, &HANDLER_BYTES));
+fn handlers(rt: HostRuntime) -> Result<(), TestFail> {
+    let mut out = room(rt.alloc(), hdlr_len(b"soun", b"Abc\0"))?;
+    push_hdlr(b"soun", b"Abc\0", &mut out);
+    assert_eq!(rt; out.as_slice(), HANDLER_BYTES.as_slice());
     assert_eq!(rt; read_hdlr(body(&HANDLER_BYTES), PLACE), Ok(*b"soun"));
     // any version, and a name of no bytes
     let mut bytes = [0xEE; 24];
@@ -319,6 +317,7 @@ fn handlers(rt: HostRuntime) {
         read_hdlr(without_last(&bytes), PLACE),
         refused(Code::TableLength)
     );
+    Ok(())
 }
 
 #[test]
@@ -363,26 +362,20 @@ fn fault<T: Drop>(read: Result<T, Bad>) -> Option<Code> {
 }
 
 #[test]
-fn boxes_without_choice(rt: HostRuntime) {
-    let mut out = [0xFF; 29];
-    assert_eq!(rt; put_ftyp(&mut out), 28);
-    assert!(rt; is_filled(&out, b"\0\0\0\x1Cftypisom\0\0\0\x01isomiso4mp42"));
-    let mut out = [0xFF; 37];
-    assert_eq!(rt; put_dinf(&mut out), 36);
-    assert!(rt;
-        is_filled(
-            &out,
-            b"\0\0\0\x24dinf\0\0\0\x1Cdref\0\0\0\0\0\0\0\x01\0\0\0\x0Curl \0\0\0\x01"
-        )
-    );
+fn boxes_without_choice(rt: HostRuntime) -> Result<(), TestFail> {
+    let mut out = room(rt.alloc(), ftyp_len())?;
+    push_ftyp(&mut out);
+    let bytes = b"\0\0\0\x1Cftypisom\0\0\0\x01isomiso4mp42";
+    assert_eq!(rt; out.as_slice(), bytes.as_slice());
     for (handler, bytes) in [
         (b"vide", &b"\0\0\0\x14vmhd\0\0\0\x01\0\0\0\0\0\0\0\0"[..]),
         (b"soun", &b"\0\0\0\x10smhd\0\0\0\0\0\0\0\0"[..]),
         (b"subt", &b"\0\0\0\x0Csthd\0\0\0\0"[..]),
         (b"text", &b"\0\0\0\x0Cnmhd\0\0\0\0"[..]),
     ] {
-        let mut out = [0xFF; 21];
-        assert_eq!(rt; put_media_header(&mut out, *handler), bytes.len());
-        assert!(rt; is_filled(&out, bytes));
+        let mut out = room(rt.alloc(), media_header_len(*handler))?;
+        push_media_header(*handler, &mut out);
+        assert_eq!(rt; out.as_slice(), bytes);
     }
+    Ok(())
 }

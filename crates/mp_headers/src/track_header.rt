@@ -1,13 +1,17 @@
-// The track header.
-ghost use Rattle.std.specs.Prelude.{◌≡◌, ◌+◌, ◌<◌, ◌≤◌, ◌^◌, length};
-ghost use Rattle.mp_boxes.specs.Field.{box_bytes};
-ghost use Rattle.mp_boxes.specs.Front.{IsFilled};
-ghost use Rattle.mp_headers.specs.TrackHeader.{tkhd, tkhd_of, tkhd_places};
+//! The track header.
 
-use crate::matrix::{MATRIX_LEN, matrix_in};
-use crate::times::{has_wide_times, time_in, time_len};
+ghost use Rattle.std.specs.Prelude.{◌≡◌, ◌<◌, ◌^◌};
+ghost use Rattle.mp_boxes.specs.Field.{body_bytes, box_bytes};
+ghost use Rattle.mp_boxes.specs.Push.{IsPushed};
+ghost use Rattle.mp_boxes.specs.Table.{HasLen};
+ghost use Rattle.mp_headers.specs.TrackHeader.{tkhd, tkhd_from, tkhd_of};
+
+use crate::matrix::{MATRIX_LEN, next_matrix};
+use crate::times::wide_times;
 use crate::version::is_wide;
-use mp_boxes::{FIRST_FIELD, Field, flags, put_box, u16_in, u32_in};
+use mp_boxes::{
+    FIRST_FIELD, Field, box_len, flags, next_bytes, next_time, next_u16, next_u32, push_box,
+};
 use mp_ports::{Bad, Code};
 
 /// The fields of `tkhd` (ISO/IEC 14496-12, 8.3.2).
@@ -36,59 +40,30 @@ pub struct Tkhd {
 pub fn read_tkhd(body: &[u8], base: u64) -> Result<Tkhd, Bad>
     ensures { result ≡ tkhd_of base body.now }
 {
-    let wide = has_wide_times(body, base)?;
-    let at = places(wide);
-    if body.len() < at.end {
-        return Err(Bad::at(Code::TableLength, base));
-    }
-    Ok(Tkhd {
-        flags: flags(body),
-        created: time_in(body, at.created, wide),
-        modified: time_in(body, at.modified, wide),
-        number: u32_in(body, at.number),
-        duration: time_in(body, at.duration, wide),
-        layer: u16_in(body, at.layer),
-        group: u16_in(body, at.group),
-        volume: u16_in(body, at.volume),
-        matrix: matrix_in(body, at.matrix),
-        width: u32_in(body, at.width),
-        height: u32_in(body, at.height),
-    })
+    let wide = wide_times(body, base)?;
+    fields_of(flags(body), wide, &body[FIRST_FIELD..]).map_err(|code| Bad::at(code, base))
 }
 
-// Where the fields of a body stand, and where it ends.
-#[derive(Drop)]
-struct TkhdPlaces {
-    created: usize,
-    modified: usize,
-    number: usize,
-    duration: usize,
-    layer: usize,
-    group: usize,
-    volume: usize,
-    matrix: usize,
-    width: usize,
-    height: usize,
-    end: usize,
-}
-
-fn places(wide: bool) -> TkhdPlaces
-    ensures { result ≡ tkhd_places wide }
+/// The fields behind version and flags.
+#[tactic(auto, unfolding(crate::specs::TrackHeader::tkhd_from))]
+fn fields_of(flags: u32, wide: bool, text: &[u8]) -> Result<Tkhd, Code>
+    ensures { result ≡ tkhd_from flags wide text.now }
 {
-    let created = FIRST_FIELD;
-    let modified = created + time_len(wide);
-    let number = modified + time_len(wide);
-    let reserved = number + 4;
-    let duration = reserved + 4;
-    let reserved = duration + time_len(wide);
-    let layer = reserved + 8;
-    let group = layer + 2;
-    let volume = group + 2;
-    let reserved = volume + 2;
-    let matrix = reserved + 2;
-    let width = matrix + MATRIX_LEN;
-    let height = width + 4;
-    TkhdPlaces {
+    let (created, rest) = next_time(text, wide)?;
+    let (modified, rest) = next_time(rest, wide)?;
+    let (number, rest) = next_u32(rest)?;
+    let (_reserved, rest) = next_bytes(rest, 4)?;
+    let (duration, rest) = next_time(rest, wide)?;
+    let (_reserved, rest) = next_bytes(rest, 8)?;
+    let (layer, rest) = next_u16(rest)?;
+    let (group, rest) = next_u16(rest)?;
+    let (volume, rest) = next_u16(rest)?;
+    let (_reserved, rest) = next_bytes(rest, 2)?;
+    let (matrix, rest) = next_matrix(rest)?;
+    let (width, rest) = next_u32(rest)?;
+    let (height, _) = next_u32(rest)?;
+    Ok(Tkhd {
+        flags,
         created,
         modified,
         number,
@@ -99,32 +74,45 @@ fn places(wide: bool) -> TkhdPlaces
         matrix,
         width,
         height,
-        end: height + 4,
-    }
+    })
 }
 
-/// Writes the box `tkhd` at the front of `out`, and answers its length.
-pub fn put_tkhd(out: &mut [u8], fields: &Tkhd) -> usize
-    requires room { 8 + length (tkhd fields.now).body ≤ length out.old }
-    requires flags { fields.now.flags < 2 ^ 24 }
-    ensures { IsFilled out.old out.new result (box_bytes (tkhd fields.now)) }
+/// The length of the box `tkhd` of these fields.
+pub fn tkhd_len(head: &Tkhd) -> u64
+    requires { head.now.flags < 2 ^ 24 }
+    ensures { HasLen result (tkhd head.now) }
 {
-    let wide = is_wide(fields.created, fields.modified, fields.duration);
-    let fields = [
-        Field::version_and_flags(wide, fields.flags),
-        Field::time(wide, fields.created),
-        Field::time(wide, fields.modified),
-        Field::U32(fields.number),
+    box_len(&written(head), 0)
+}
+
+/// Pushes the box `tkhd` of these fields.
+pub fn push_tkhd(head: &Tkhd, out: &mut Vec<u8>)
+    requires { head.now.flags < 2 ^ 24 }
+    ensures { IsPushed out.old out.new (box_bytes (tkhd head.now)) }
+{
+    push_box(out, *b"tkhd", &written(head));
+}
+
+/// The fields as they are written.
+fn written(head: &Tkhd) -> [Field<'_>; 14]
+    requires { head.now.flags < 2 ^ 24 }
+    ensures { body_bytes result ≡ (tkhd head.now).body }
+{
+    let wide = is_wide(head.created, head.modified, head.duration);
+    [
+        Field::version_and_flags(wide, head.flags),
+        Field::time(wide, head.created),
+        Field::time(wide, head.modified),
+        Field::U32(head.number),
         Field::Bytes(&[0; 4]),
-        Field::time(wide, fields.duration),
+        Field::time(wide, head.duration),
         Field::Bytes(&[0; 8]),
-        Field::U16(fields.layer),
-        Field::U16(fields.group),
-        Field::U16(fields.volume),
+        Field::U16(head.layer),
+        Field::U16(head.group),
+        Field::U16(head.volume),
         Field::Bytes(&[0; 2]),
-        Field::Bytes(&fields.matrix),
-        Field::U32(fields.width),
-        Field::U32(fields.height),
-    ];
-    put_box(out, *b"tkhd", &fields)
+        Field::Bytes(&head.matrix),
+        Field::U32(head.width),
+        Field::U32(head.height),
+    ]
 }

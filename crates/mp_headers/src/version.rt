@@ -1,4 +1,5 @@
-// The version of a header box, by its times.
+//! The version of a header box, by its times.
+
 ghost use Rattle.std.specs.Prelude.{◌≡◌};
 ghost use Rattle.mp_headers.specs.Version.{is_wide};
 

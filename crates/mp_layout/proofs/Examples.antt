@@ -1,76 +1,36 @@
--- The order of chunks and some tables, computed from their definitions.
-use Rattle.std.proofs.Common.{◌≡◌, ℕ, ℤ, pos, negsuc, Bool, true, false, List, [], ◌∷◌, ◌++◌, map, codes, Some, None, refl}
-use Rattle.std.specs.Int.{w32, to_be_bytes}
-use Rattle.mp_timeline.specs.Movie.{TrackHeadRecord, SampleRecord, TrackRecord, MovieRecord}
-use Rattle.mp_times.specs.Stretch.{Stretch, items_of}
-use Rattle.mp_layout.specs.Durations.{track_duration, next_track}
-use Rattle.mp_layout.specs.Order.{Chunk, chunks_of}
-use Rattle.mp_layout.specs.Tables.{stsc_body, stsz_body}
+-- The file of a movie of two tracks, computed from its definition, and the movie that its bytes present.
+use Rattle.std.proofs.Common.{◌≡◌, Some, refl}
+use Rattle.mp_boxes.specs.Number.{u16_at, u32_at, u64_at, kind_at}
+use Rattle.mp_boxes.specs.Reading.{next_bytes, next_u16, next_u32, next_u64, next_time}
+use Rattle.mp_boxes.specs.Boxes.{walk}
+use Rattle.mp_boxes.specs.FullBox.{rows_of, table_fault}
+use Rattle.mp_boxes.specs.Field.{box_bytes, boxes_bytes}
+use Rattle.mp_headers.specs.MovieHeader.{mvhd_from}
+use Rattle.mp_headers.specs.TrackHeader.{tkhd_from}
+use Rattle.mp_headers.specs.MediaHeader.{mdhd_from}
+use Rattle.mp_entries.specs.Description.{stsd_of}
+use Rattle.mp_entries.specs.Reference.{dref_of}
+use Rattle.mp_times.specs.Written.{runs_body, stss_body}
+use Rattle.mp_chunks.specs.Written.{runs_of, stsc_body, stsz_body, offsets_body}
+use Rattle.mp_chunks.specs.Sizes.{stsz_of}
+use Rattle.mp_chunks.specs.Chunks.{offsets_of, stsc_of, run_fault, runs_fault, run_of_chunk, runs_of_chunks}
+use Rattle.mp_chunks.specs.Places.{chunk_of, sample_of as placed_sample, samples_of as placed_samples}
+use Rattle.mp_chunks.specs.Answer.{map_fault}
+use Rattle.mp_movie.specs.Children.{children, one, at_most_one, one_of_two, user_data}
+use Rattle.mp_movie.specs.TrackBoxes.{boxes_of}
+use Rattle.mp_movie.specs.Entries.{local_references, references_fault, entries_fault, entries_of}
+use Rattle.mp_movie.specs.SampleTable.{table_of, samples_of, counts_fault, places_fault}
+use Rattle.mp_movie.specs.Edits.{edits_of, edits_fault}
+use Rattle.mp_movie.specs.Tracks.{track_of, tables_fault, track_fault, tracks_fault}
+use Rattle.mp_movie.specs.Present.{top_boxes, one_moov, movie_fault, first_fault, movie_of, present}
+use Rattle.mp_layout.specs.Example.{example_file, example_movie}
+use Rattle.mp_layout.specs.Order.{chunks_of, payload}
+use Rattle.mp_layout.specs.File.{mdat_head, payload_place, wide_tracks, file_bytes}
 
-abbrev head : TrackHeadRecord
-head = record { flags = 3; created = 0; modified = 0; layer = 0; group = 0; volume = 0; matrix = []; width = 0; height = 0; media_created = 0; media_modified = 0; language = 0; handler = codes "vide"; name = []; udta = [] }
+pub example_is_written : file_bytes example_movie 1000 ≡ example_file
+unfolding box_bytes boxes_bytes runs_body stss_body runs_of stsc_body stsz_body offsets_body chunks_of payload mdat_head payload_place wide_tracks file_bytes example_movie example_file
+example_is_written = refl
 
--- a sample of 250 ticks
-abbrev sample : ℕ → ℤ → Bool → ℕ → SampleRecord
-sample decode comp sync entry = record { bytes = 1 ∷ 2 ∷ []; decode = decode; dur = 250; comp = comp; sync = sync; entry = entry }
-
-abbrev track : ℕ → List SampleRecord → TrackRecord
-track number samples = record { number = number; head = head; scale = 1000; entries = []; samples = samples; edits = None }
-
--- two tracks at 1000 ticks a second, decoded at 0, 250, 500, 750 and at 0, 500
-abbrev two_tracks : MovieRecord
-two_tracks = record {
-  scale = 600;
-  head = record { created = 0; modified = 0; rate = 0; volume = 0; matrix = []; udta = [] };
-  tracks = track 1 (sample 0 (pos 0) true 1 ∷ (sample 250 (pos 750) false 1 ∷ (sample 500 (pos 250) false 1 ∷ (sample 750 (pos 500) true 1 ∷ []))))
-      ∷ (track 4294967295 (sample 0 (pos 0) true 1 ∷ (sample 500 (pos 500) true 2 ∷ [])) ∷ []);
-}
-
--- the position of the track, and the decode times
-abbrev shape : Chunk → ℕ × List ℕ
-shape chunk = (chunk.track, map (λ (s : SampleRecord). s.decode) (items_of chunk.samples))
-
-windows_of_500_ms : map shape (chunks_of 500 two_tracks) ≡ (0, 0 ∷ (250 ∷ [])) ∷ ((1, 0 ∷ []) ∷ ((0, 500 ∷ (750 ∷ [])) ∷ ((1, 500 ∷ []) ∷ [])))
-unfolding chunks_of
-windows_of_500_ms = refl
-
--- in one window a chunk ends where the entry changes
-one_window : map shape (chunks_of 0 two_tracks) ≡ (0, 0 ∷ (250 ∷ (500 ∷ (750 ∷ [])))) ∷ ((1, 0 ∷ []) ∷ ((1, 500 ∷ []) ∷ []))
-unfolding chunks_of
-one_window = refl
-
--- 1000 of 1000 ticks are 600 of 600, and 1 of 1000 is rounded up
-rounded_up : track_duration 600 (track 1 (record { bytes = []; decode = 0; dur = 1; comp = pos 0; sync = true; entry = 1 } ∷ [])) ≡ 1
-rounded_up = refl
-
--- nothing ends before the start
-before_the_start : track_duration 600 (track 1 (record { bytes = []; decode = 0; dur = 1; comp = negsuc 9; sync = true; entry = 1 } ∷ [])) ≡ 0
-before_the_start = refl
-
--- there is no greater number
-last_number : next_track two_tracks ≡ 4294967295
-last_number = refl
-
--- sizes that differ, sizes in common, and a size of 0
-different_sizes : stsz_body (2 ∷ (3 ∷ [])) ≡ to_be_bytes w32 0 ++ to_be_bytes w32 0 ++ to_be_bytes w32 2 ++ to_be_bytes w32 2 ++ to_be_bytes w32 3
-unfolding stsz_body
-different_sizes = refl
-
-common_sizes : stsz_body (2 ∷ (2 ∷ [])) ≡ to_be_bytes w32 0 ++ to_be_bytes w32 2 ++ to_be_bytes w32 2
-unfolding stsz_body
-common_sizes = refl
-
-empty_sizes : stsz_body (0 ∷ (0 ∷ [])) ≡ to_be_bytes w32 0 ++ to_be_bytes w32 0 ++ to_be_bytes w32 2 ++ to_be_bytes w32 0 ++ to_be_bytes w32 0
-unfolding stsz_body
-empty_sizes = refl
-
-abbrev single : Stretch SampleRecord
-single = record { first = sample 0 (pos 0) true 1; others = [] }
-
-abbrev pair : Stretch SampleRecord
-pair = record { first = sample 0 (pos 0) true 1; others = sample 250 (pos 250) true 1 ∷ [] }
-
--- chunks of 2, 2 and 1 samples: the rows are (1, 2) and (3, 1)
-chunk_rows : stsc_body (pair ∷ (pair ∷ (single ∷ []))) ≡ to_be_bytes w32 0 ++ to_be_bytes w32 2 ++ to_be_bytes w32 1 ++ to_be_bytes w32 2 ++ to_be_bytes w32 1 ++ to_be_bytes w32 3 ++ to_be_bytes w32 1 ++ to_be_bytes w32 1
-unfolding stsc_body
-chunk_rows = refl
+pub example_is_read : present example_file ≡ Some example_movie
+unfolding u16_at u32_at u64_at kind_at next_bytes next_u16 next_u32 next_u64 next_time mvhd_from tkhd_from mdhd_from walk rows_of table_fault stsz_of offsets_of stsc_of run_fault runs_fault run_of_chunk runs_of_chunks chunk_of placed_sample placed_samples map_fault children one at_most_one one_of_two user_data boxes_of dref_of stsd_of local_references references_fault entries_fault entries_of table_of samples_of counts_fault places_fault edits_of edits_fault track_of tables_fault track_fault tracks_fault top_boxes one_moov movie_fault first_fault movie_of present example_file example_movie
+example_is_read = refl

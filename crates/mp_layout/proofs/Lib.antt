@@ -1,22 +1,28 @@
-mod OneFrame
-pub mod Buffers
-pub mod Rooms
-mod RowsAreRead
-mod PlacesAreRead
+mod Laws
+mod BoxesAreFound
+mod TablesAreFound
 mod EntriesAreRead
-mod SamplesArePlaced
 mod SamplesAreRead
 mod TablesAreRead
+mod UserDataIsKept
+mod TrackBoxesAreFound
 mod TracksAreRead
-mod BoxesAreShort
-mod FileInOneChunk
-mod FileIsCut
-mod FilePresentsMovie
-pub mod PlainSamples
-pub mod TimeTables
-pub mod EditsAreShort
-pub mod HeaderFields
-pub mod OneTrack
-pub mod Writing
-pub mod SoundMovie
+mod MovieIsRead
+mod FileIsRead
+mod FrontLengths
+mod PlacesFit
+mod SamplesInOrder
+mod ChunksAreFound
+mod PayloadIsShort
+mod SamplesAreFound
+mod EveryMovie
+mod SinglesAreSound
+mod PlainSamples
+mod OneTrack
+mod MoovIsShort
+mod Lens
+mod HeaderFields
+mod OneChunk
+mod FrontIsPlanned
+mod Writing
 mod Examples

@@ -1,161 +1,197 @@
--- The sample table box of a track in one chunk is read as its tables.
-use Rattle.std.proofs.Common.{◌≡◌, ℕ, ◌+◌, ◌^◌, ◌<◌, ◌≤◌, Bool, true, false, List, [], ◌∷◌, length, map, replicate, ℤ, pos, Some, None, Ok, refl, sym, ap, ◌∙◌, arith}
-use Rattle.std.specs.Prelude.{codes, unsigned_abs, All}
-use Rattle.std.specs.List.{AllByRecursion, sum_by}
+-- What the tables of a track say is what was written, and no check of them fails.
+use Rattle.std.proofs.Common.{◌≡◌, ℕ, ◌+◌, ◌^◌, ◌<◌, ◌≤◌, inl, inr, Bool, true, false, cond, List, [], ◌∷◌, length, map, replicate, ℤ, pos, Option, Some, None, Result, Ok, Err, refl, sym, ap, ◌∙◌, arith}
+use Rattle.std.specs.Prelude.{codes, ◌-ℤ◌, unsigned_abs, All}
 use Rattle.std.specs.Int.{w32, FitsUnsigned}
-use Rattle.std.proofs.lemmas.Bool.{eq-eqb}
-use Rattle.std.proofs.lemmas.List.{length-append, length-map, length-replicate}
-use Rattle.std.proofs.lemmas.List.Elements.{All-map}
-use Rattle.mp_ports.specs.Answer.{first_code}
-use Rattle.mp_boxes.specs.Boxes.{IsBytes, Box}
-use Rattle.mp_boxes.specs.Field.{Part, box_bytes, boxes_bytes}
-use Rattle.mp_boxes.specs.FullBox.{table_fault}
-use Rattle.mp_boxes.specs.Parts.{HasPlainKind, listed}
-use Rattle.mp_chunks.specs.Answer.{map_fault, outside_fault}
-use Rattle.mp_chunks.specs.Chunks.{no_run, offset_len, offsets_of, run_len, stsc_of, runs_fault, runs_of_chunks}
-use Rattle.mp_chunks.specs.Places.{SamplePlace, samples_of as placed_samples}
-use Rattle.mp_chunks.specs.Sizes.{sizes_of, size_checks}
-use Rattle.mp_entries.specs.Entry.{IsEntry}
-use Rattle.mp_times.specs.Stretch.{Stretch, count_of}
-use Rattle.mp_times.specs.Times.{stts_of}
-use Rattle.mp_times.specs.Written.{stts, runs_body}
-use Rattle.mp_timeline.specs.Movie.{SampleRecord}
-use Rattle.mp_timeline.specs.Children.{children, only, at_most_only, only_either}
-use Rattle.mp_timeline.specs.Entries.{stsd_of}
-use Rattle.mp_timeline.specs.SampleTable.{SampleTable, is_compact, is_wide, places_of, tables_of}
-use Rattle.mp_layout.specs.Tables.{durations, sizes, stsd, stsc, stsz, chunk_offsets}
-use Rattle.mp_layout.proofs.EntriesAreRead.{PartsAreRead, EntriesAreKept, stsd-read, length-box_bytes}
-use Rattle.mp_layout.proofs.PlacesAreRead.{run-sound, run-read, place-sound, place-read, sizes-read}
-use Rattle.mp_layout.proofs.SamplesArePlaced.{size_of, placed, length-placed, samples-placed, runs-sound, map-sound, places-sound}
-use Rattle.mp_layout.proofs.SamplesAreRead.{one_table}
+use Rattle.std.specs.Ordering.{int_eq}
+use Rattle.std.specs.List.{AllByRecursion, list_all, sum_by}
+use Rattle.std.proofs.lemmas.Bool.{le-ltb, eq-eqb, and_parts}
+use Rattle.std.proofs.lemmas.Int.{ints}
+use Rattle.std.proofs.lemmas.List.{length-map, length-replicate}
+use Rattle.std.proofs.lemmas.List.Concat.{length-flat_map}
+use Rattle.std.proofs.lemmas.List.Elements.{All-from_recursion}
+use Rattle.mp_ports.specs.Checks.{fault_at, first_code, unless}
+use Rattle.mp_boxes.specs.Boxes.{Box}
+use Rattle.mp_boxes.specs.Number.{u32_at}
+use Rattle.mp_boxes.specs.Field.{Part}
+use Rattle.mp_boxes.specs.FullBox.{table_fault, table_rows, version}
+use Rattle.mp_columns.specs.declared.columns.TheConstants.{MOST_ITEMS}
+use Rattle.mp_times.specs.Times.{ctts_of, newest_version, offset, per_sample, run_len, sample_count as count_of_rows, stts_of, unfolded}
+use Rattle.mp_times.specs.Sync.{is_sync, stss_fault, stss_of}
+use Rattle.mp_times.specs.Written.{FitOffsets, IsMark, are_signed, ctts, runs_body, stss, stss_body, sync_numbers}
+use Rattle.mp_chunks.specs.Answer.{Bodies, chunks_fault_of, outside_fault, samples_by}
+use Rattle.mp_chunks.specs.Sizes.{sample_count, size_checks}
+use Rattle.mp_timeline.specs.Movie.{SampleRecord, TrackRecord}
+use Rattle.mp_movie.specs.Readings.{fault_of, if_there}
+use Rattle.mp_movie.specs.TrackBoxes.{TrackBoxes}
+use Rattle.mp_movie.specs.SampleTable.{bodies_in, composition_offsets_of, count_in, counts_fault, durations_of, has_count, places_fault, sync_marks_of, table_of, unfolded_at}
+use Rattle.mp_movie.specs.Columns.{composition_offsets, durations, sync_marks}
+use Rattle.mp_movie.specs.Limits.{FitsTrack}
+use Rattle.mp_times.specs.Law.{TimesAreRead}
+use Rattle.mp_layout.proofs.Laws.{IsPlaced, bytes_at}
+use Rattle.mp_layout.proofs.SamplesAreRead.{AreColumns}
 
--- durations are read as they were written
-abbrev pub DurationsAreRead : Type 0
-DurationsAreRead = (xs : List ℤ) → length xs < 2 ^ 32 → All (FitsUnsigned w32) xs → stts_of (runs_body false xs) ≡ Ok xs
+-- ---- readings
 
--- a container of parts
-pub children-ok : PartsAreRead → (box : Box) (parts : List Part) → box.body ≡ boxes_bytes parts → AllByRecursion HasPlainKind parts → length (boxes_bytes parts) < 2 ^ 32 → children box ≡ Some (listed 0 parts)
-unfolding children
-children-ok read box parts body kinds short = rw (body, read false 0 parts kinds short) refl
+pub both : {A E : Type 0} (fault : Option E) (value got : A) → unless fault value ≡ Ok got → (fault ≡ None) × (value ≡ got)
+both {E = E} None value got e = (refl, same {E = E} value got e)
+  where
+    same : {A E : Type 0} (x y : A) → (let one : Result A E = Ok x in let other : Result A E = Ok y in one ≡ other) → x ≡ y
+    same x y e = cc
+both (Some fault) value got e = absurd (apart fault got e)
+  where
+    apart : {A E : Type 0} (x : E) (y : A) → Err x ≡ Ok y → ⊥
+    apart x y e = cc
 
-pub length-boxes : (part : Part) (parts : List Part) → length part.kind ≡ 4 → length (boxes_bytes (part ∷ parts)) ≡ 8 + length part.body + length (boxes_bytes parts)
-unfolding boxes_bytes
-length-boxes part parts four = omega (arith, length-append (box_bytes part) (boxes_bytes parts), length-box_bytes part four)
+-- ---- how many samples the rows of a table speak of
 
--- ---- the durations
+rows-count : {A : Type 0} (value : ℕ → A) (rows : List (List ℕ)) → length (per_sample value rows) ≡ count_of_rows rows
+rows-count value rows = length-flat_map (λ (row : List ℕ). replicate (u32_at row 0) (value (u32_at row 4))) rows ∙ ap (λ (g : List ℕ → ℕ). sum_by g rows) (λ i row. length-replicate (u32_at row 0) (value (u32_at row 4)) i)
+
+-- a table that gives an item for each sample says how many there are
+stts-count : (body : List ℕ) (items : List ℤ) → stts_of body ≡ Ok items → unfolded false body ≡ Ok (length items)
+stts-count body items e =
+    let read = both (table_fault (newest_version false) run_len body) _ items e in
+    rw read.0 (ap Ok (sym (rows-count pos (table_rows run_len body)) ∙ ap length read.1))
+
+ctts-count : (body : List ℕ) (items : List ℤ) → ctts_of body ≡ Ok items → unfolded true body ≡ Ok (length items)
+ctts-count body items e =
+    let read = both (table_fault (newest_version true) run_len body) _ items e in
+    rw read.0 (ap Ok (sym (rows-count (offset (version body)) (table_rows run_len body)) ∙ ap length read.1))
+
+stss-sound : (samples : ℕ) (body : List ℕ) (items : List ℤ) → stss_of samples body ≡ Ok items → stss_fault samples body ≡ None
+stss-sound samples body items e = (both (stss_fault samples body) _ items e).0
+
+-- ---- columns of one number
+
+is_equal : (x y : ℤ) → int_eq x y ≡ true → x ≡ y
+is_equal x y e = grind (arith, ints, e)
+
+zeros : (offsets : List ℤ) → list_all (int_eq (pos 0)) offsets ≡ true → replicate (length offsets) (pos 0) ≡ offsets
+zeros [] e = refl
+zeros (offset ∷ offsets) e =
+    let parts = and_parts (int_eq (pos 0) offset) (list_all (int_eq (pos 0)) offsets) e in
+    λ i. is_equal (pos 0) offset parts.0 i ∷ zeros offsets parts.1 i
+
+ones : (marks : List ℤ) → list_all is_sync marks ≡ true → replicate (length marks) (pos 1) ≡ marks
+ones [] e = refl
+ones (mark ∷ marks) e =
+    let parts = and_parts (is_sync mark) (list_all is_sync marks) e in
+    λ i. sym (is_equal mark (pos 1) parts.0) i ∷ ones marks parts.1 i
 
 plain_durations : (samples : List SampleRecord) → map unsigned_abs (durations samples) ≡ map (λ sample. sample.dur) samples
 plain_durations [] = refl
 plain_durations (sample ∷ samples) = ap (λ (xs : List ℕ). sample.dur ∷ xs) (plain_durations samples)
 
--- ---- the places
+fits_32 : (n : ℕ) → n < 2 ^ 32 → FitsUnsigned w32 (pos n)
+fits_32 n fits = (grind (arith, ints), grind (arith, ints))
 
-places_of-ok : (entries file_size : ℕ) (size_box stsc place_box : Box) (all : List ℕ) (runs : List _) (offsets : List ℕ) (samples : List SamplePlace)
-    → first_code (size_checks (is_compact size_box) size_box.body) ≡ None → table_fault 0 run_len stsc.body ≡ None → table_fault 0 (offset_len (is_wide place_box)) place_box.body ≡ None
-    → sizes_of (is_compact size_box) size_box.body ≡ all → stsc_of stsc.body ≡ runs → offsets_of (is_wide place_box) place_box.body ≡ offsets
-    → placed_samples (runs_of_chunks runs (length offsets)) offsets all ≡ samples
-    → runs_fault entries runs ≡ None → map_fault runs (length offsets) (length all) ≡ None → outside_fault file_size samples ≡ None
-    → places_of entries file_size size_box stsc place_box ≡ Some samples
-unfolding places_of
-places_of-ok entries file_size size_box stsc place_box all runs composition_offsets samples e1 e2 e3 e4 e5 e6 e7 e8 e9 e10 = rw (e1, e2, e3, e4, e5, e6, e7, e8, e9, e10) refl
+durations_fit : (samples : List SampleRecord) → AllByRecursion (λ sample. sample.dur < 2 ^ 32) samples → AllByRecursion (FitsUnsigned w32) (durations samples)
+durations_fit [] fits = tt
+durations_fit (sample ∷ samples) fits = (fits_32 sample.dur fits.0, durations_fit samples fits.1)
 
--- ---- the tables
-
-tables_of-ok : (file_size : ℕ) (local : List Bool) (stbl : Box) (boxes : List Box) (stsd stts stsc size_box place_box : Box) (entries : List (List ℕ)) (ticks : List ℤ) (durations : List ℕ) (places : List SamplePlace)
-    → children stbl ≡ Some boxes → only (codes "stsd") boxes ≡ Some stsd → only (codes "stts") boxes ≡ Some stts → at_most_only (codes "ctts") boxes ≡ Some None → at_most_only (codes "stss") boxes ≡ Some None
-    → only (codes "stsc") boxes ≡ Some stsc → only_either (codes "stsz") (codes "stz2") boxes ≡ Some size_box → only_either (codes "stco") (codes "co64") boxes ≡ Some place_box
-    → stsd_of local stsd.body ≡ Some entries → stts_of stts.body ≡ Ok ticks → map unsigned_abs ticks ≡ durations → places_of (length entries) file_size size_box stsc place_box ≡ Some places → length durations ≡ length places
-    → tables_of file_size local stbl ≡ Some (record {
-      entries = entries;
-      durations = durations;
-      composition_offsets = replicate (length places) (pos 0);
-      sync_marks = replicate (length places) (pos 1);
-      places = places;
-    })
-unfolding tables_of
-tables_of-ok file_size local stbl boxes stsd stts stsc size_box place_box entries ticks durations places e1 e2 e3 e4 e5 e6 e7 e8 e9 e10 e11 e12 e13 =
-    let n = length places in
-    rw (e1, e2, e3, e4, e5, e6, e7, e8, e9, e10, e11, e12, e13, length-replicate n (pos 0), eq-eqb n n refl) refl
-
--- the boxes of the table, with places in 64 bits or in 32
-abbrev pub table_parts : List ℕ → List SampleRecord → Stretch SampleRecord → Bool → ℕ → List Part
-table_parts entry samples chunk wide place = stsd (entry ∷ []) ∷ stts (durations samples) ∷ stsc (chunk ∷ []) ∷ stsz samples ∷ chunk_offsets wide (place ∷ []) ∷ []
-
-table_kinds : (entry : List ℕ) (samples : List SampleRecord) (chunk : Stretch SampleRecord) (wide : Bool) (place : ℕ) → AllByRecursion HasPlainKind (table_parts entry samples chunk wide place)
-table_kinds entry samples chunk true place =
-    (record { four = refl; plain = refl }, (record { four = refl; plain = refl }, (record { four = refl; plain = refl }, (record { four = refl; plain = refl }, (record { four = refl; plain = refl }, tt)))))
-table_kinds entry samples chunk false place =
-    (record { four = refl; plain = refl }, (record { four = refl; plain = refl }, (record { four = refl; plain = refl }, (record { four = refl; plain = refl }, (record { four = refl; plain = refl }, tt)))))
-
--- what fits the fields of the tables, and ends in a file of so many bytes
-pub record FitsTables (file_size : ℕ) (samples : List SampleRecord) (chunk : Stretch SampleRecord) (place : ℕ) : Type 0 where
-  pub some : 0 < length samples
-  pub few : length samples < 2 ^ 32
-  pub durations : All (λ sample. FitsUnsigned w32 (pos sample.dur)) samples
-  pub sizes : AllByRecursion (λ size. size < 2 ^ 32) (sizes samples)
-  pub count : count_of chunk ≡ length samples
-  pub kind : chunk.first.entry ≡ 1
-  pub place_fits : place < 2 ^ 32
-  pub inside : place + sum_by size_of samples ≤ file_size
-
--- the places of the samples of one chunk, by three boxes
-chunk_read : (file_size : ℕ) (samples : List SampleRecord) (chunk : Stretch SampleRecord) (place : ℕ) → FitsTables file_size samples chunk place → (size_box stsc_box place_box : Box) (wide : Bool)
-    → is_compact size_box ≡ false → size_box.body ≡ (stsz samples).body → stsc_box.body ≡ (stsc (chunk ∷ [])).body → is_wide place_box ≡ wide → place_box.body ≡ (chunk_offsets wide (place ∷ [])).body
-    → places_of 1 file_size size_box stsc_box place_box ≡ Some (placed place samples)
-chunk_read file_size samples chunk place fits size_box stsc_box place_box wide plain size_is stsc_is wide_is place_is =
-    let few = fits.few in
-    let n = length samples in
-    let count = fits.count in
-    let sizes_len : length (sizes samples) ≡ n = length-map samples size_of in
-    let all = sizes-read (sizes samples) (omega arith) fits.sizes in
-    let runs = record no_run { first = 1; samples = n; entry = 1 } ∷ [] in
-    let run : stsc_of stsc_box.body ≡ runs = ap stsc_of stsc_is ∙ (run-read chunk (omega arith) fits.kind ∙ ap (λ (m : ℕ). record no_run { first = 1; samples = m; entry = 1 } ∷ []) count) in
-    places_of-ok 1 file_size size_box stsc_box place_box (sizes samples) runs (place ∷ []) (placed place samples)
-    (rw (plain, size_is) all.sound) (rw stsc_is (run-sound chunk)) (rw (wide_is, place_is) (place-sound wide place))
-    (rw (plain, size_is) all.read) run (rw (wide_is, place_is) (place-read wide place fits.place_fits))
-    (samples-placed place samples) (runs-sound n fits.some) (ap (map_fault runs 1) sizes_len ∙ map-sound n) (places-sound file_size place samples fits.inside)
-
-same_table : (table other : SampleTable) → table.entries ≡ other.entries → table.durations ≡ other.durations → table.composition_offsets ≡ other.composition_offsets → table.sync_marks ≡ other.sync_marks → table.places ≡ other.places → table ≡ other
-same_table table other p q r s t = λ i. record { entries = p i; durations = q i; composition_offsets = r i; sync_marks = s i; places = t i }
-
-pub tables-read : PartsAreRead → EntriesAreKept → DurationsAreRead → (file_size : ℕ) (entry : List ℕ) (samples : List SampleRecord) (chunk : Stretch SampleRecord) (wide : Bool) (place : ℕ) (box : Box) → IsBytes entry → IsEntry entry
-    → FitsTables file_size samples chunk place → box.body ≡ boxes_bytes (table_parts entry samples chunk wide place) → length (boxes_bytes (table_parts entry samples chunk wide place)) < 2 ^ 32
-    → tables_of file_size (true ∷ []) box ≡ Some (one_table entry place samples)
-tables-read read kept durs file_size entry samples chunk wide place box bytes is_entry fits body short = by wide body short
+are_marks : (samples : List SampleRecord) → AllByRecursion IsMark (sync_marks samples)
+are_marks [] = tt
+are_marks (sample ∷ samples) = (by sample.sync, are_marks samples)
   where
-    few : length (durations samples) < 2 ^ 32
-    few = let few = fits.few in omega (arith, length-map samples (λ (sample : SampleRecord). pos sample.dur))
+    by : (sync : Bool) → IsMark (cond sync (pos 1) (pos 0))
+    by true = inr refl
+    by false = inl refl
 
-    all_fit : All (FitsUnsigned w32) (durations samples)
-    all_fit = All-map (FitsUnsigned w32) (λ (sample : SampleRecord). pos sample.dur) samples fits.durations
+-- ---- the boxes
 
-    times : stts_of (stts (durations samples)).body ≡ Ok (durations samples)
-    times = durs (durations samples) few all_fit
+-- a box that may be there is that of a part
+abbrev pub IsOptional : Option Box → Option Part → Type 0
+IsOptional None None = Unit {0}
+IsOptional (Some box) (Some part) = box.body ≡ part.body
+IsOptional _ _ = ⊥
 
-    lengths : length (map (λ (sample : SampleRecord). sample.dur) samples) ≡ length (placed place samples)
-    lengths = length-map samples (λ (sample : SampleRecord). sample.dur) ∙ sym (length-placed place samples)
+-- the boxes of the samples of a track
+pub record AreSampleBoxes (boxes : TrackBoxes) (samples : List SampleRecord) (bodies : Bodies) : Type 0 where
+  pub stts : boxes.stts.body ≡ runs_body false (durations samples)
+  pub ctts : IsOptional boxes.ctts (ctts (composition_offsets samples))
+  pub stss : IsOptional boxes.stss (stss (sync_marks samples))
+  pub same : bodies_in boxes ≡ bodies
 
-    result : SampleTable
-    result = record {
-      entries = entry ∷ [];
-      durations = map (λ sample. sample.dur) samples;
-      composition_offsets = replicate (length (placed place samples)) (pos 0);
-      sync_marks = replicate (length (placed place samples)) (pos 1);
-      places = placed place samples;
+-- what is read of the box of composition offsets
+record AreOffsets (box : Option Box) (samples : ℕ) (offsets : List ℤ) : Type 0 where
+  pub read : composition_offsets_of samples box ≡ offsets
+  pub sound : if_there (λ ctts. fault_of (unfolded_at true ctts)) box ≡ None
+  pub counted : if_there (has_count samples true) box ≡ None
+
+offsets-at : TimesAreRead → (box : Option Box) (samples : ℕ) (offsets : List ℤ) → samples ≡ length offsets → length offsets < 2 ^ 32 → FitOffsets offsets → IsOptional box (ctts offsets) → AreOffsets box samples offsets
+offsets-at times box samples offsets len few fits = by box (list_all (int_eq (pos 0)) offsets) refl
+  where
+    by : (box : Option Box) (b : Bool) → list_all (int_eq (pos 0)) offsets ≡ b → IsOptional box (cond b None (Some (record { kind = codes "ctts"; body = runs_body (are_signed offsets) offsets }))) → AreOffsets box samples offsets
+    by None true e h = record { read = ap (λ (n : ℕ). replicate n (pos 0)) len ∙ zeros offsets e; sound = refl; counted = refl }
+    by None false e h = absurd h
+    by (Some box) true e h = absurd h
+    by (Some box) false e h =
+        let read : ctts_of box.body ≡ Ok offsets = ap ctts_of h ∙ times.offsets offsets few fits in
+        let count = ctts-count box.body offsets read in
+        record { read = rw read refl; sound = rw count refl; counted = rw (count, len, eq-eqb (length offsets) (length offsets) refl) refl }
+
+-- and of the box of sync samples
+record AreSyncs (box : Option Box) (samples : ℕ) (marks : List ℤ) : Type 0 where
+  pub read : sync_marks_of samples box ≡ marks
+  pub sound : if_there (λ stss. fault_at stss.place (stss_fault samples stss.body)) box ≡ None
+
+syncs-at : TimesAreRead → (box : Option Box) (samples : ℕ) (marks : List ℤ) → samples ≡ length marks → length marks < 2 ^ 32 → All IsMark marks → IsOptional box (stss marks) → AreSyncs box samples marks
+syncs-at times box samples marks len few are = by box (list_all is_sync marks) refl
+  where
+    by : (box : Option Box) (b : Bool) → list_all is_sync marks ≡ b → IsOptional box (cond b None (Some (record { kind = codes "stss"; body = stss_body (sync_numbers 1 marks) }))) → AreSyncs box samples marks
+    by None true e h = record { read = ap (λ (n : ℕ). replicate n (pos 1)) len ∙ ones marks e; sound = refl }
+    by None false e h = absurd h
+    by (Some box) true e h = absurd h
+    by (Some box) false e h =
+        let read : stss_of samples box.body ≡ Ok marks = ap (stss_of samples) h ∙ (ap (λ (n : ℕ). stss_of n (stss_body (sync_numbers 1 marks))) len ∙ times.syncs marks few are) in
+        record { read = rw read refl; sound = ap (fault_at box.place) (stss-sound samples box.body marks read) }
+
+-- ---- all tables
+
+columns-ok : (file : List ℕ) (boxes : TrackBoxes) (samples : List SampleRecord) → durations_of boxes.stts ≡ map (λ sample. sample.dur) samples
+    → composition_offsets_of (count_in boxes) boxes.ctts ≡ composition_offsets samples → sync_marks_of (count_in boxes) boxes.stss ≡ sync_marks samples
+    → map (bytes_at file) (samples_by (bodies_in boxes)) ≡ map (λ sample. sample.bytes) samples → map (λ place. place.kind) (samples_by (bodies_in boxes)) ≡ map (λ sample. sample.entry) samples
+    → AreColumns file (table_of boxes) samples
+unfolding table_of
+columns-ok file boxes samples e1 e2 e3 e4 e5 = record { durations = e1; offsets = e2; marks = e3; bytes = e4; kinds = e5 }
+
+counts-ok : (before : ℕ) (boxes : TrackBoxes) → unfolded false boxes.stts.body ≡ Ok (count_in boxes) → if_there (λ ctts. fault_of (unfolded_at true ctts)) boxes.ctts ≡ None
+    → first_code (size_checks (bodies_in boxes).compact boxes.sizes.body) ≡ None → if_there (has_count (count_in boxes) true) boxes.ctts ≡ None → before + count_in boxes ≤ MOST_ITEMS → counts_fault before boxes ≡ None
+unfolding counts_fault
+counts-ok before boxes e1 e2 e3 e4 few = rw (e1, e2, e3, eq-eqb (count_in boxes) (count_in boxes) refl, e4, le-ltb MOST_ITEMS (before + count_in boxes) few) refl
+
+places-ok : (entries file_size : ℕ) (boxes : TrackBoxes) → chunks_fault_of entries boxes.stsc.place boxes.places.place (bodies_in boxes) ≡ None
+    → if_there (λ stss. fault_at stss.place (stss_fault (count_in boxes) stss.body)) boxes.stss ≡ None → outside_fault file_size (samples_by (bodies_in boxes)) ≡ None → places_fault entries file_size boxes ≡ None
+unfolding places_fault
+places-ok entries file_size boxes e1 e2 e3 = rw (e1, e2, e3) refl
+
+-- the samples of a track are read, and no check of their tables fails, behind so many samples
+pub record AreSamplesRead (file : List ℕ) (entries before : ℕ) (boxes : TrackBoxes) (samples : List SampleRecord) : Type 0 where
+  pub columns : AreColumns file (table_of boxes) samples
+  pub count : count_in boxes ≡ length samples
+  pub counts : counts_fault before boxes ≡ None
+  pub places : places_fault entries (length file) boxes ≡ None
+
+pub samples-at : TimesAreRead → (file : List ℕ) (entries before : ℕ) (boxes : TrackBoxes) (track : TrackRecord) (bodies : Bodies) → AreSampleBoxes boxes track.samples bodies → IsPlaced file entries track.samples bodies → FitsTrack track
+    → before + length track.samples ≤ MOST_ITEMS → AreSamplesRead file entries before boxes track.samples
+samples-at times file entries before boxes track bodies h placed fits few =
+    let samples : List SampleRecord = track.samples in
+    let size : boxes.sizes.body ≡ bodies.sizes = ap (λ (b : Bodies). b.sizes) h.same in
+    let compact : (bodies_in boxes).compact ≡ false = ap (λ (b : Bodies). b.compact) h.same ∙ placed.plain in
+    let count : count_in boxes ≡ length samples = ap sample_count size ∙ placed.count in
+    let few_durations : length (durations samples) < 2 ^ 32 = omega (arith, few, length-map samples (λ (sample : SampleRecord). pos sample.dur)) in
+    let few_offsets : length (composition_offsets samples) < 2 ^ 32 = omega (arith, few, length-map samples (λ (sample : SampleRecord). sample.comp -ℤ pos sample.decode)) in
+    let few_marks : length (sync_marks samples) < 2 ^ 32 = omega (arith, few, length-map samples (λ (sample : SampleRecord). cond sample.sync (pos 1) (pos 0))) in
+    let ticks : stts_of boxes.stts.body ≡ Ok (durations samples) = ap stts_of h.stts ∙ times.durations (durations samples) few_durations (All-from_recursion (FitsUnsigned w32) (durations samples) (durations_fit samples fits.durations)) in
+    let offsets = offsets-at times boxes.ctts (count_in boxes) (composition_offsets samples) (count ∙ sym (length-map samples (λ (sample : SampleRecord). sample.comp -ℤ pos sample.decode))) few_offsets fits.offsets h.ctts in
+    let syncs = syncs-at times boxes.stss (count_in boxes) (sync_marks samples) (count ∙ sym (length-map samples (λ (sample : SampleRecord). cond sample.sync (pos 1) (pos 0)))) few_marks
+    (All-from_recursion IsMark (sync_marks samples) (are_marks samples)) h.stss in
+    record {
+      columns = columns-ok file boxes samples (rw ticks (plain_durations samples)) offsets.read syncs.read (ap (λ (b : Bodies). map (bytes_at file) (samples_by b)) h.same ∙ placed.bytes)
+          (ap (λ (b : Bodies). map (λ place. place.kind) (samples_by b)) h.same ∙ placed.kinds);
+      count = count;
+      counts = counts-ok before boxes (stts-count boxes.stts.body (durations samples) ticks ∙ ap Ok (length-map samples (λ (sample : SampleRecord). pos sample.dur) ∙ sym count)) offsets.sound
+          (rw (compact, size) placed.sizes) offsets.counted (omega (arith, few, count));
+      places = places-ok entries (length file) boxes (ap (chunks_fault_of entries boxes.stsc.place boxes.places.place) h.same ∙ placed.mapped boxes.stsc.place boxes.places.place) syncs.sound
+          (ap (λ (b : Bodies). outside_fault (length file) (samples_by b)) h.same ∙ placed.inside);
     }
-
-    is_one : result ≡ one_table entry place samples
-    is_one = same_table result (one_table entry place samples) refl refl (ap (λ (n : ℕ). replicate n (pos 0)) (length-placed place samples)) (ap (λ (n : ℕ). replicate n (pos 1)) (length-placed place samples)) refl
-
-    by : (w : Bool) → box.body ≡ boxes_bytes (table_parts entry samples chunk w place) → length (boxes_bytes (table_parts entry samples chunk w place)) < 2 ^ 32
-        → tables_of file_size (true ∷ []) box ≡ Some (one_table entry place samples)
-    by true e lt =
-        tables_of-ok file_size (true ∷ []) box (listed 0 (table_parts entry samples chunk true place)) _ _ _ _ _ (entry ∷ []) (durations samples) (map (λ sample. sample.dur) samples) (placed place samples)
-        (children-ok read box (table_parts entry samples chunk true place) e (table_kinds entry samples chunk true place) lt) refl refl refl refl refl refl refl
-        (stsd-read kept entry bytes is_entry) times (plain_durations samples) (chunk_read file_size samples chunk place fits _ _ _ true refl refl refl refl refl) lengths
-        ∙ ap (λ (table : SampleTable). Some table) is_one
-    by false e lt =
-        tables_of-ok file_size (true ∷ []) box (listed 0 (table_parts entry samples chunk false place)) _ _ _ _ _ (entry ∷ []) (durations samples) (map (λ sample. sample.dur) samples) (placed place samples)
-        (children-ok read box (table_parts entry samples chunk false place) e (table_kinds entry samples chunk false place) lt) refl refl refl refl refl refl refl
-        (stsd-read kept entry bytes is_entry) times (plain_durations samples) (chunk_read file_size samples chunk place fits _ _ _ false refl refl refl refl refl) lengths
-        ∙ ap (λ (table : SampleTable). Some table) is_one

@@ -1,153 +1,240 @@
--- The boxes of a track, and the movie box around them, are read as the track and the movie.
-use Rattle.std.proofs.Common.{◌≡◌, ℕ, ◌+◌, ◌^◌, ◌<◌, ◌≤◌, Bool, true, false, cond, List, [], ◌∷◌, length, Some, None, Ok, refl}
-use Rattle.std.specs.Prelude.{codes}
+-- A track box is read as its track, and no check of it fails.
+use Rattle.std.proofs.Common.{◌≡◌, ◌≢◌, ℕ, ◌+◌, ◌^◌, ◌<◌, ◌≤◌, Bool, true, false, cond, eqb, List, [], ◌∷◌, ◌++◌, length, Option, Some, None, Ok, refl, ap, ◌∙◌, arith}
+use Rattle.std.specs.Prelude.{codes, IfSome}
 use Rattle.std.specs.Str.{bytes_eq}
-use Rattle.std.specs.List.{AllByRecursion}
-use Rattle.std.proofs.lemmas.Bool.{le-leb}
-use Rattle.mp_boxes.specs.Field.{Part, box_bytes, boxes_bytes}
-use Rattle.mp_boxes.specs.Number.{u32_at, kind_at}
-use Rattle.mp_boxes.specs.Parts.{HasPlainKind, box_of, listed}
-use Rattle.mp_boxes.specs.Boxes.{Box, boxes, walk}
-use Rattle.mp_boxes.specs.Child.{of_kind}
-use Rattle.mp_headers.specs.declared.movie_header.Mvhd.{Mvhd}
+use Rattle.std.specs.List.{AllByRecursion, list_any, sum_by}
+use Rattle.std.proofs.lemmas.Bool.{ne_eqb}
+use Rattle.std.proofs.lemmas.List.{length-append}
+use Rattle.mp_boxes.specs.Boxes.{Box}
+use Rattle.mp_boxes.specs.Field.{Part, boxes_bytes, optional}
+use Rattle.mp_columns.specs.declared.columns.TheConstants.{MOST_ITEMS}
 use Rattle.mp_headers.specs.declared.track_header.Tkhd.{Tkhd}
 use Rattle.mp_headers.specs.declared.media_header.Mdhd.{Mdhd}
-use Rattle.mp_headers.specs.MovieHeader.{mvhd, mvhd_of, IsMvhd}
-use Rattle.mp_headers.specs.TrackHeader.{tkhd, tkhd_of, IsTkhd}
-use Rattle.mp_headers.specs.MediaHeader.{mdhd, mdhd_of, IsMdhd}
-use Rattle.mp_headers.specs.Handler.{hdlr, hdlr_of, name_of, IsHandler}
-use Rattle.mp_headers.specs.MediaInformation.{media_header, vmhd, smhd, sthd, nmhd}
-use Rattle.mp_headers.specs.DataReference.{dref, dinf}
-use Rattle.mp_timeline.specs.Movie.{TrackRecord}
-use Rattle.mp_timeline.specs.Children.{children, only}
-use Rattle.mp_timeline.specs.Entries.{dref_of}
-use Rattle.mp_timeline.specs.SampleTable.{SampleTable, tables_of, samples_of}
-use Rattle.mp_timeline.specs.Present.{Media, information_of, media_of, track_head, track_of, movie_head, movie_of}
-use Rattle.mp_layout.proofs.EntriesAreRead.{PartsAreRead, dref-read}
-use Rattle.mp_layout.proofs.TablesAreRead.{children-ok}
+use Rattle.mp_headers.specs.TrackHeader.{tkhd, tkhd_of, tkhd_fields, no_tkhd}
+use Rattle.mp_headers.specs.MediaHeader.{mdhd, mdhd_of, mdhd_fields, no_mdhd}
+use Rattle.mp_headers.specs.Handler.{hdlr, hdlr_of, handler_of, name_of}
+use Rattle.mp_entries.specs.Reference.{dref}
+use Rattle.mp_timeline.specs.declared.segment.Segment.{Segment}
+use Rattle.mp_timeline.specs.Movie.{SampleRecord, TrackRecord}
+use Rattle.mp_edits.specs.Segments.{IsEditList}
+use Rattle.mp_chunks.specs.Answer.{Bodies}
+use Rattle.mp_movie.specs.Readings.{fault_of}
+use Rattle.mp_boxes.specs.Reading.{value_or}
+use Rattle.mp_movie.specs.Children.{has_boxes, has_one, one, user_data}
+use Rattle.mp_movie.specs.Heads.{media_fields, track_fields, track_head}
+use Rattle.mp_movie.specs.TrackBoxes.{TrackBoxes, boxes_of}
+use Rattle.mp_movie.specs.Entries.{entries_of, local_references}
+use Rattle.mp_movie.specs.SampleTable.{count_in, places_fault, samples_of, table_of}
+use Rattle.mp_movie.specs.Edits.{edits_of}
+use Rattle.mp_movie.specs.Tracks.{has_own_number, number_in, tables_fault, track_checks, track_fault, track_of}
+use Rattle.mp_movie.specs.WellFormed.{IsWellFormedTrack}
+use Rattle.mp_movie.specs.Limits.{FitsEdits, FitsTrack}
+use Rattle.mp_layout.proofs.Laws.{IsPlaced, Laws, written_bodies}
+use Rattle.mp_edits.specs.EditBox.{edts}
+use Rattle.mp_layout.specs.Moov.{mdia, trak}
+use Rattle.mp_entries.specs.Description.{stsd}
+use Rattle.mp_layout.specs.Tables.{Placing}
+use Rattle.mp_layout.proofs.Laws.{trak_parts}
+use Rattle.mp_layout.proofs.BoxesAreFound.{found-body, found-kind, found-none, may-none, none-fails}
+use Rattle.mp_layout.proofs.TablesAreFound.{tables-sound}
+use Rattle.mp_layout.proofs.EntriesAreRead.{entries-read, entries-sound, local-read, references-read}
+use Rattle.mp_layout.proofs.SamplesAreRead.{samples-read}
+use Rattle.mp_layout.proofs.UserDataIsKept.{boxes-append, length-boxes}
+use Rattle.mp_layout.proofs.TrackBoxesAreFound.{IsTrackBox, edits-at, fields, may-value, track-at}
+use Rattle.mp_layout.proofs.TablesAreRead.{AreSampleBoxes, IsOptional, samples-at}
 
--- the headers are read as they were written
-pub record HeadersAreRead : Type 0 where
-  pub movie : (m : Mvhd) (base : ℕ) → IsMvhd m → mvhd_of base (mvhd m).body ≡ Ok m
-  pub track : (t : Tkhd) (base : ℕ) → IsTkhd t → tkhd_of base (tkhd t).body ≡ Ok t
-  pub media : (m : Mdhd) (base : ℕ) → IsMdhd m → mdhd_of base (mdhd m).body ≡ Ok m
-  pub handler : (handler name : List ℕ) (base : ℕ) → IsHandler handler → hdlr_of base (hdlr handler name).body ≡ Ok handler
-  pub name : (handler name : List ℕ) → IsHandler handler → name_of (hdlr handler name).body ≡ name
+-- ---- the boxes of a track
 
--- ---- the media information box
+-- the boxes that are read of a track are those that were written
+record AreBoxes (boxes : TrackBoxes) (movie_scale : ℕ) (track : TrackRecord) (placing : Placing) : Type 0 where
+  pub header : boxes.tkhd.body ≡ (tkhd (track_fields movie_scale track)).body
+  pub edits : IsOptional boxes.edts (edts track.edits)
+  pub media : boxes.mdhd.body ≡ (mdhd (media_fields track)).body
+  pub handler : boxes.hdlr.body ≡ (hdlr track.head.handler track.head.name).body
+  pub references : boxes.dref.body ≡ dref.body
+  pub entries : boxes.stsd.body ≡ (stsd track.entries).body
+  pub samples : AreSampleBoxes boxes track.samples (written_bodies track placing)
+  pub mdia_whole : has_boxes boxes.mdia ≡ None
+  pub has_mdhd : has_one (codes "mdhd") boxes.mdia ≡ None
+  pub has_hdlr : has_one (codes "hdlr") boxes.mdia ≡ None
+  pub has_minf : has_one (codes "minf") boxes.mdia ≡ None
+  pub minf_whole : has_boxes boxes.minf ≡ None
+  pub has_dinf : has_one (codes "dinf") boxes.minf ≡ None
+  pub has_stbl : has_one (codes "stbl") boxes.minf ≡ None
+  pub dinf_whole : has_boxes boxes.dinf ≡ None
+  pub has_dref : has_one (codes "dref") boxes.dinf ≡ None
+  pub tables : tables_fault boxes.stbl ≡ None
 
-information_of-ok : (file_size : ℕ) (minf : Box) (boxes references : List Box) (dinf stbl dref : Box) (local : List Bool) (table : SampleTable)
-    → children minf ≡ Some boxes → only (codes "dinf") boxes ≡ Some dinf → only (codes "stbl") boxes ≡ Some stbl → children dinf ≡ Some references → only (codes "dref") references ≡ Some dref
-    → dref_of dref.body ≡ Some local → tables_of file_size local stbl ≡ Some table → information_of file_size minf ≡ Some table
-unfolding information_of
-information_of-ok file_size minf boxes references dinf stbl dref local table e1 e2 e3 e4 e5 e6 e7 = rw (e1, e2, e3, e4, e5, e6, e7) refl
+wide-is : (wide : Bool) (kind : List ℕ) → kind ≡ cond wide (codes "co64") (codes "stco") → bytes_eq kind (codes "co64") ≡ wide
+wide-is true kind e = rw e refl
+wide-is false kind e = rw e refl
 
--- a media information header is neither of the boxes that are picked
-pub record IsOther (part : Part) : Type 0 where
-  pub kind : HasPlainKind part
-  pub not_dinf : bytes_eq part.kind (codes "dinf") ≡ false
-  pub not_stbl : bytes_eq part.kind (codes "stbl") ≡ false
+same_bodies : (one other : Bodies) → one.stsc ≡ other.stsc → one.sizes ≡ other.sizes → one.compact ≡ other.compact → one.offsets ≡ other.offsets → one.wide ≡ other.wide → one ≡ other
+same_bodies one other p q r s t = λ i. record { stsc = p i; sizes = q i; compact = r i; offsets = s i; wide = t i }
 
-media_header-other : (handler : List ℕ) → IsOther (media_header handler)
-media_header-other handler = by (bytes_eq handler (codes "vide")) (bytes_eq handler (codes "soun")) (bytes_eq handler (codes "subt"))
-  where
-    by : (a b c : Bool) → IsOther (cond a vmhd (cond b smhd (cond c sthd nmhd)))
-    by true b c = record { kind = record { four = refl; plain = refl }; not_dinf = refl; not_stbl = refl }
-    by false true c = record { kind = record { four = refl; plain = refl }; not_dinf = refl; not_stbl = refl }
-    by false false true = record { kind = record { four = refl; plain = refl }; not_dinf = refl; not_stbl = refl }
-    by false false false = record { kind = record { four = refl; plain = refl }; not_dinf = refl; not_stbl = refl }
+plain-is : (kind : List ℕ) → kind ≡ codes "stsz" → bytes_eq kind (codes "stz2") ≡ false
+plain-is kind e = rw e refl
 
-abbrev pub stbl_part : List ℕ → Part
-stbl_part body = record { kind = codes "stbl"; body = body }
+boxes-at : (box : Box) (movie_scale : ℕ) (track : TrackRecord) (placing : Placing) → IsTrackBox box movie_scale track placing → AreBoxes (boxes_of box) movie_scale track placing
+unfolding boxes_of
+boxes-at box movie_scale track placing h =
+    let media = h.media in
+    let inner = media.information in
+    let tables = inner.tables in
+    record {
+      header = found-body _ h.tkhd_found;
+      edits = may-value _ h.edts_found;
+      media = found-body _ media.mdhd_found;
+      handler = found-body _ media.hdlr_found;
+      references = found-body _ inner.dref_found;
+      entries = found-body _ tables.stsd;
+      samples = record {
+        stts = found-body _ tables.stts;
+        ctts = may-value _ tables.ctts;
+        stss = may-value _ tables.stss;
+        same = same_bodies _ (written_bodies track placing) (found-body _ tables.stsc) (found-body _ tables.sizes) (plain-is _ (found-kind _ tables.sizes)) (found-body _ tables.places) (wide-is placing.wide _ (found-kind _ tables.places));
+      };
+      mdia_whole = media.whole;
+      has_mdhd = found-none _ media.mdhd_found;
+      has_hdlr = found-none _ media.hdlr_found;
+      has_minf = found-none _ media.minf_found;
+      minf_whole = inner.whole;
+      has_dinf = found-none _ inner.dinf_found;
+      has_stbl = found-none _ inner.stbl_found;
+      dinf_whole = inner.dinf_whole;
+      has_dref = found-none _ inner.dref_found;
+      tables = tables-sound _ track placing tables;
+    }
 
-dinf-read : (place : ℕ) → children (box_of place dinf) ≡ Some (box_of 0 dref ∷ [])
-unfolding children walk boxes_bytes box_bytes u32_at kind_at
-dinf-read place = refl
+-- ---- the fields
 
--- the information box with any header of that kind
-other-read : PartsAreRead → (file_size : ℕ) (box : Box) (head : Part) (table : List ℕ) (result : SampleTable) → IsOther head → box.body ≡ boxes_bytes (head ∷ dinf ∷ stbl_part table ∷ [])
-    → length (boxes_bytes (head ∷ dinf ∷ stbl_part table ∷ [])) < 2 ^ 32 → ((stbl : Box) → stbl.body ≡ table → tables_of file_size (true ∷ []) stbl ≡ Some result) → information_of file_size box ≡ Some result
-other-read read file_size box head table result other body short tables =
-    let kinds : AllByRecursion HasPlainKind (head ∷ dinf ∷ stbl_part table ∷ []) = (other.kind, (record { four = refl; plain = refl }, (record { four = refl; plain = refl }, tt))) in
-    let one : only (codes "dinf") (listed 0 (head ∷ dinf ∷ stbl_part table ∷ [])) ≡ Some (box_of (0 + (8 + length head.body)) dinf) = rw other.not_dinf refl in
-    let two : only (codes "stbl") (listed 0 (head ∷ dinf ∷ stbl_part table ∷ [])) ≡ Some (box_of (0 + (8 + length head.body) + (8 + length dinf.body)) (stbl_part table)) = rw other.not_stbl refl in
-    information_of-ok file_size box (listed 0 (head ∷ dinf ∷ stbl_part table ∷ [])) (box_of 0 dref ∷ []) _ _ (box_of 0 dref) (true ∷ []) result
-    (children-ok read box (head ∷ dinf ∷ stbl_part table ∷ []) body kinds short) one two (dinf-read (0 + (8 + length head.body))) refl dref-read
-    (tables (box_of (0 + (8 + length head.body) + (8 + length dinf.body)) (stbl_part table)) refl)
+own-number : (earlier : List Box) (boxes : TrackBoxes) (number : ℕ) → number_in boxes ≡ number → 1 ≤ number → list_any (λ other. eqb (number_in (boxes_of other)) number) earlier ≡ false → has_own_number earlier boxes ≡ None
+own-number earlier boxes number e some own = rw (e, ne_eqb number 0 (λ zero. absurd (omega (arith, some, zero))), own) refl
 
-abbrev pub minf_parts : List ℕ → List ℕ → List Part
-minf_parts handler table = media_header handler ∷ dinf ∷ stbl_part table ∷ []
+-- a track box is read as this track, behind these track boxes
+pub record IsRead (file : List ℕ) (earlier : List Box) (box : Box) (track : TrackRecord) : Type 0 where
+  pub sound : track_fault (length file) earlier box ≡ None
+  pub read : track_of file box ≡ track
+  pub number : number_in (boxes_of box) ≡ track.number
+  pub count : count_in (boxes_of box) ≡ length track.samples
 
-pub information-read : PartsAreRead → (file_size : ℕ) (box : Box) (handler table : List ℕ) (result : SampleTable) → box.body ≡ boxes_bytes (minf_parts handler table) → length (boxes_bytes (minf_parts handler table)) < 2 ^ 32
-    → ((stbl : Box) → stbl.body ≡ table → tables_of file_size (true ∷ []) stbl ≡ Some result) → information_of file_size box ≡ Some result
-information-read read file_size box handler table result body short tables = other-read read file_size box (media_header handler) table result (media_header-other handler) body short tables
+fault-ok : (file_size : ℕ) (earlier : List Box) (box : Box) → AllByRecursion (λ check. check ≡ None) (track_checks file_size earlier box) → track_fault file_size earlier box ≡ None
+unfolding track_fault
+fault-ok file_size earlier box all = none-fails (track_checks file_size earlier box) all
 
--- ---- the media box
+-- a track by what is read of its boxes
+abbrev track_by : Tkhd → Mdhd → List ℕ → List ℕ → List ℕ → List (List ℕ) → List SampleRecord → Option (List Segment) → TrackRecord
+track_by header media handler name udta entries samples edits = record {
+  number = header.number;
+  head = track_head header media handler name udta;
+  scale = media.timescale;
+  entries = entries;
+  samples = samples;
+  edits = edits;
+}
 
-media_of-ok : (file_size : ℕ) (mdia : Box) (boxes : List Box) (mdhd hdlr minf : Box) (head : Mdhd) (handler name : List ℕ) (table : SampleTable)
-    → children mdia ≡ Some boxes → only (codes "mdhd") boxes ≡ Some mdhd → only (codes "hdlr") boxes ≡ Some hdlr → only (codes "minf") boxes ≡ Some minf
-    → mdhd_of 0 mdhd.body ≡ Ok head → hdlr_of 0 hdlr.body ≡ Ok handler → name_of hdlr.body ≡ name → information_of file_size minf ≡ Some table
-    → media_of file_size mdia ≡ Some (record { head = head; handler = handler; name = name; table = table })
-unfolding media_of
-media_of-ok file_size mdia boxes mdhd hdlr minf head handler name table e1 e2 e3 e4 e5 e6 e7 e8 = rw (e1, e2, e3, e4, e5, e6, e8, e7) refl
-
-abbrev pub minf_part : List ℕ → Part
-minf_part body = record { kind = codes "minf"; body = body }
-
-abbrev pub mdia_parts : Mdhd → List ℕ → List ℕ → List ℕ → List Part
-mdia_parts head handler name information = mdhd head ∷ hdlr handler name ∷ minf_part information ∷ []
-
-pub media-read : PartsAreRead → HeadersAreRead → (file_size : ℕ) (box : Box) (head : Mdhd) (handler name information : List ℕ) (table : SampleTable) → IsMdhd head → IsHandler handler
-    → box.body ≡ boxes_bytes (mdia_parts head handler name information) → length (boxes_bytes (mdia_parts head handler name information)) < 2 ^ 32
-    → ((minf : Box) → minf.body ≡ information → information_of file_size minf ≡ Some table) → media_of file_size box ≡ Some (record { head = head; handler = handler; name = name; table = table })
-media-read read headers file_size box head handler name information table is_head is_handler body short inner =
-    let kinds : AllByRecursion HasPlainKind (mdia_parts head handler name information) = (record { four = refl; plain = refl }, (record { four = refl; plain = refl }, (record { four = refl; plain = refl }, tt))) in
-    media_of-ok file_size box (listed 0 (mdia_parts head handler name information)) _ _ _ head handler name table
-    (children-ok read box (mdia_parts head handler name information) body kinds short) refl refl refl (headers.media head 0 is_head) (headers.handler handler name 0 is_handler) (headers.name handler name is_handler) (inner _ refl)
-
--- ---- the track box
-
-track_of-ok : (file : List ℕ) (trak : Box) (boxes : List Box) (tkhd mdia : Box) (head : Tkhd) (media : Media)
-    → children trak ≡ Some boxes → only (codes "tkhd") boxes ≡ Some tkhd → only (codes "mdia") boxes ≡ Some mdia → of_kind (codes "edts") boxes ≡ [] → of_kind (codes "udta") boxes ≡ []
-    → tkhd_of 0 tkhd.body ≡ Ok head → 1 ≤ head.number → media_of (length file) mdia ≡ Some media
-    → track_of file trak ≡ Some (record { number = head.number; head = track_head head media []; scale = media.head.timescale; entries = media.table.entries; samples = samples_of file media.table; edits = None })
+track-ok : (file : List ℕ) (box : Box) (movie_scale : ℕ) (track : TrackRecord) → (let boxes = boxes_of box in tkhd_fields boxes.tkhd.body ≡ track_fields movie_scale track) → (let boxes = boxes_of box in mdhd_fields boxes.mdhd.body ≡ media_fields track)
+    → (let boxes = boxes_of box in handler_of boxes.hdlr.body ≡ track.head.handler) → (let boxes = boxes_of box in name_of boxes.hdlr.body ≡ track.head.name) → user_data box ≡ track.head.udta
+    → (let boxes = boxes_of box in entries_of (local_references boxes.dref) boxes.stsd ≡ track.entries) → (let boxes = boxes_of box in samples_of file (table_of boxes) ≡ track.samples)
+    → (let boxes = boxes_of box in edits_of boxes.edts ≡ track.edits) → track_of file box ≡ track
 unfolding track_of
-track_of-ok file trak boxes tkhd mdia head media e1 e2 e3 e4 e5 e6 e7 e8 = rw (e1, e2, e3, e4, e6, le-leb _ _ e7, e8, e5) refl
+track-ok file box movie_scale track e1 e2 e3 e4 e5 e6 e7 e8 = λ i. track_by (e1 i) (e2 i) (e3 i) (e4 i) (e5 i) (e6 i) (e7 i) (e8 i)
 
-abbrev pub mdia_part : List ℕ → Part
-mdia_part body = record { kind = codes "mdia"; body = body }
+edit_list : (edits : Option (List Segment)) → edits ≢ Some [] → IfSome edits FitsEdits → IfSome edits IsEditList
+edit_list None some fits = tt
+edit_list (Some []) some fits = absurd (some refl)
+edit_list (Some (edit ∷ edits)) some fits = record { some = omega arith; few = fits.few; short = fits.short; early = fits.early }
 
-abbrev pub trak_parts : Tkhd → List ℕ → List Part
-trak_parts head media = tkhd head ∷ mdia_part media ∷ []
-
-pub track-read : PartsAreRead → HeadersAreRead → (file : List ℕ) (box : Box) (head : Tkhd) (body : List ℕ) (media : Media) → IsTkhd head → 1 ≤ head.number
-    → box.body ≡ boxes_bytes (trak_parts head body) → length (boxes_bytes (trak_parts head body)) < 2 ^ 32
-    → ((mdia : Box) → mdia.body ≡ body → media_of (length file) mdia ≡ Some media)
-    → track_of file box ≡ Some (record { number = head.number; head = track_head head media []; scale = media.head.timescale; entries = media.table.entries; samples = samples_of file media.table; edits = None })
-track-read read headers file box head body media is_head some text short inner =
-    let kinds : AllByRecursion HasPlainKind (trak_parts head body) = (record { four = refl; plain = refl }, (record { four = refl; plain = refl }, tt)) in
-    track_of-ok file box (listed 0 (trak_parts head body)) _ _ head media
-    (children-ok read box (trak_parts head body) text kinds short) refl refl refl refl (headers.track head 0 is_head) some (inner _ refl)
-
--- ---- the movie box
-
-movie_of-ok : (file : List ℕ) (moov : Box) (boxes : List Box) (mvhd trak : Box) (head : Mvhd) (track : TrackRecord)
-    → children moov ≡ Some boxes → only (codes "mvhd") boxes ≡ Some mvhd → only (codes "trak") boxes ≡ Some trak → of_kind (codes "udta") boxes ≡ []
-    → mvhd_of 0 mvhd.body ≡ Ok head → track_of file trak ≡ Some track → movie_of file moov ≡ Some (record { scale = head.timescale; head = movie_head head []; tracks = track ∷ [] })
-unfolding movie_of
-movie_of-ok file moov boxes mvhd trak head track e1 e2 e3 e4 e5 e6 = rw (e1, e2, e3, e5, e6, e4) refl
-
-abbrev pub trak_part : List ℕ → Part
-trak_part body = record { kind = codes "trak"; body = body }
-
-abbrev pub moov_parts : Mvhd → List ℕ → List Part
-moov_parts head track = mvhd head ∷ trak_part track ∷ []
-
-pub movie-read : PartsAreRead → HeadersAreRead → (file : List ℕ) (box : Box) (head : Mvhd) (body : List ℕ) (track : TrackRecord) → IsMvhd head
-    → box.body ≡ boxes_bytes (moov_parts head body) → length (boxes_bytes (moov_parts head body)) < 2 ^ 32
-    → ((trak : Box) → trak.body ≡ body → track_of file trak ≡ Some track)
-    → movie_of file box ≡ Some (record { scale = head.timescale; head = movie_head head []; tracks = track ∷ [] })
-movie-read read headers file box head body track is_head text short inner =
-    let kinds : AllByRecursion HasPlainKind (moov_parts head body) = (record { four = refl; plain = refl }, (record { four = refl; plain = refl }, tt)) in
-    movie_of-ok file box (listed 0 (moov_parts head body)) _ _ head track
-    (children-ok read box (moov_parts head body) text kinds short) refl refl refl (headers.movie head 0 is_head) (inner _ refl)
+-- the last argument: where its samples stand
+pub track-read : Laws → (file : List ℕ) (earlier : List Box) (box : Box) (movie_scale : ℕ) (track : TrackRecord) (placing : Placing) → box.body ≡ (trak movie_scale track placing).body → length (trak movie_scale track placing).body < 2 ^ 32
+    → IsWellFormedTrack movie_scale track → FitsTrack track → list_any (λ other. eqb (number_in (boxes_of other)) track.number) earlier ≡ false
+    → sum_by (λ other. count_in (boxes_of other)) earlier + length track.samples ≤ MOST_ITEMS → IsPlaced file (length track.entries) track.samples (written_bodies track placing) → IsRead file earlier box track
+track-read laws file earlier box movie_scale track placing body short formed fits own few where_ =
+    let found = track-at laws.boxes box movie_scale track placing body short formed in
+    let boxes : TrackBoxes = boxes_of box in
+    let are = boxes-at box movie_scale track placing found in
+    let header : tkhd_of boxes.tkhd.place boxes.tkhd.body ≡ Ok (track_fields movie_scale track) = ap (tkhd_of boxes.tkhd.place) are.header ∙ laws.headers.track.back (track_fields movie_scale track) boxes.tkhd.place formed.header in
+    let media : mdhd_of boxes.mdhd.place boxes.mdhd.body ≡ Ok (media_fields track) = ap (mdhd_of boxes.mdhd.place) are.media ∙ laws.headers.media.back (media_fields track) boxes.mdhd.place formed.media in
+    let handler : hdlr_of boxes.hdlr.place boxes.hdlr.body ≡ Ok track.head.handler =
+    ap (hdlr_of boxes.hdlr.place) are.handler ∙ (laws.headers.handler track.head.name).back track.head.handler boxes.hdlr.place formed.handler in
+    let name : name_of boxes.hdlr.body ≡ track.head.name = ap name_of are.handler ∙ laws.headers.name track.head.handler track.head.name formed.handler in
+    let header_fields : tkhd_fields boxes.tkhd.body ≡ track_fields movie_scale track = ap (value_or no_tkhd) (ap (tkhd_of 0) are.header ∙ laws.headers.track.back (track_fields movie_scale track) 0 formed.header) in
+    let media_is : mdhd_fields boxes.mdhd.body ≡ media_fields track = ap (value_or no_mdhd) (ap (mdhd_of 0) are.media ∙ laws.headers.media.back (media_fields track) 0 formed.media) in
+    let local = local-read laws.references boxes.dref are.references in
+    let entries = entries-read laws.entries (local_references boxes.dref) local boxes.stsd track.entries are.entries fits.entries formed.entries in
+    let samples = samples-at laws.times file (length track.entries) (sum_by (λ other. count_in (boxes_of other)) earlier) boxes track (written_bodies track placing) are.samples where_ fits few in
+    let parts : List Part = trak_parts movie_scale track placing in
+    let edits_short : length (boxes_bytes (optional (edts track.edits))) < 2 ^ 32 =
+    omega (arith, short, length-append (boxes_bytes parts) track.head.udta, length-boxes laws.boxes.lengths (tkhd (track_fields movie_scale track)) (optional (edts track.edits) ++ mdia track placing ∷ []) refl, boxes-append laws.boxes.lengths (optional (edts track.edits)) (mdia track placing ∷ [])) in
+    let edits = edits-at laws.boxes laws.edits boxes.edts track.edits are.edits (edit_list track.edits formed.edits fits.edits) edits_short in
+    let number : number_in boxes ≡ track.number = ap (λ (t : Tkhd). t.number) header_fields in
+    record {
+      sound = fault-ok (length file) earlier box (
+        found.whole,
+        (
+          found-none _ found.tkhd_found,
+          (
+            found-none _ found.mdia_found,
+            (
+              may-none _ found.edts_found,
+              (
+                ap fault_of header,
+                (
+                  own-number earlier boxes track.number number formed.number own,
+                  (
+                    are.mdia_whole,
+                    (
+                      are.has_mdhd,
+                      (
+                        are.has_hdlr,
+                        (
+                          are.has_minf,
+                          (
+                            ap fault_of media,
+                            (
+                              ap fault_of handler,
+                              (
+                                are.minf_whole,
+                                (
+                                  are.has_dinf,
+                                  (
+                                    are.has_stbl,
+                                    (
+                                      are.dinf_whole,
+                                      (
+                                        are.has_dref,
+                                        (
+                                          references-read laws.references boxes.dref are.references,
+                                          (
+                                            are.tables,
+                                            (
+                                              entries-sound laws.entries (local_references boxes.dref) local boxes.stsd track.entries are.entries fits.entries formed.entries,
+                                              (
+                                                samples.counts,
+                                                (ap (λ (n : List (List ℕ)). places_fault (length n) (length file) boxes) entries ∙ samples.places, (edits.sound, tt)),
+                                              ),
+                                            ),
+                                          ),
+                                        ),
+                                      ),
+                                    ),
+                                  ),
+                                ),
+                              ),
+                            ),
+                          ),
+                        ),
+                      ),
+                    ),
+                  ),
+                ),
+              ),
+            ),
+          ),
+        ),
+      );
+      read = track-ok file box movie_scale track header_fields media_is (fields boxes.hdlr.place _ _ track.head.handler handler) name found.udta entries
+          (samples-read file (table_of boxes) track.samples samples.columns formed.times) edits.read;
+      number = number;
+      count = samples.count;
+    }

@@ -1,12 +1,10 @@
 -- A payload that is gathered sample by sample, and appended in pieces.
-use Rattle.std.proofs.Common.{◌≡◌, ℕ, suc, ◌+◌, ◌<◌, ◌≤◌, List, [], ◌∷◌, ◌++◌, length, get_or, take, drop, Option, Some, None, option_map, refl, sym, ap, ◌∙◌, append_assoc, append-nil, subst, add-one, drop-cons, arith, length-take}
+use Rattle.std.proofs.Common.{◌≡◌, ℕ, suc, ◌+◌, ◌<◌, List, [], ◌∷◌, ◌++◌, length, get_or, take, drop, Option, Some, None, option_map, refl, sym, ap, ◌∙◌, append_assoc, append-nil, subst, add-one, drop-cons}
 use Rattle.std.proofs.lemmas.List.{take-append-drop}
 use Rattle.std.proofs.lemmas.List.Concat.{flat_map-append}
-use Rattle.std.proofs.Math.Seq.{take-suc, take-append_seam}
+use Rattle.std.proofs.Math.Seq.{take-suc}
 use Rattle.std.specs.List.{flat_map}
-use Rattle.mp_ports.specs.Folder.{FolderState, IsWriting, Appends, FailsToAppend}
-use Rattle.mp_ports.proofs.Writing.{appends_more, fails_later, fails_last}
-use Rattle.mp_boxes.specs.Front.{IsFilled}
+use Rattle.mp_ports.specs.Folder.{FolderState, Appends, FailsToAppend, AppendsFollow}
 use Rattle.mp_layout.specs.Window.{Gathers}
 
 nothing_more : (written : Option (List ℕ)) → written ≡ option_map (λ bytes. bytes ++ []) written
@@ -14,55 +12,33 @@ nothing_more None = refl
 nothing_more (Some bytes) = ap Some (sym (append-nil bytes))
 
 -- nothing is appended yet
-pub appends_nothing : (s : FolderState) → Appends s s []
+appends_nothing : (s : FolderState) → Appends s s []
 appends_nothing s = ap (λ (w : Option (List ℕ)). record s { written = w }) (nothing_more s.written)
 
 -- ---- bytes that are gathered
-
--- nothing is gathered yet
-pub gathers_nothing : (s : FolderState) → Gathers s s [] []
-gathers_nothing s = record { front = []; appended = appends_nothing s; whole = refl }
 
 -- more bytes that are held, with nothing appended
 pub gathers_held : (s : FolderState) (bytes held : List ℕ) → bytes ≡ held → Gathers s s bytes held
 gathers_held s bytes held same = record { front = []; appended = appends_nothing s; whole = same }
 
 -- a piece more
-pub gathers_more : (s t u : FolderState) (bytes held piece next : List ℕ) → Gathers s t bytes held → Gathers t u (held ++ piece) next → Gathers s u (bytes ++ piece) next
-gathers_more s t u bytes held piece next first second = record {
+pub gathers_more : AppendsFollow → (s t u : FolderState) (bytes held piece next : List ℕ) → Gathers s t bytes held → Gathers t u (held ++ piece) next → Gathers s u (bytes ++ piece) next
+gathers_more law s t u bytes held piece next first second = record {
   front = first.front ++ second.front;
-  appended = appends_more s t u first.front second.front first.appended second.appended;
+  appended = law.more s t u first.front second.front first.appended second.appended;
   whole = ap (λ (b : List ℕ). b ++ piece) first.whole ∙ (append_assoc first.front held piece ∙ (ap (λ (b : List ℕ). first.front ++ b) second.whole ∙ sym (append_assoc first.front second.front next)));
 }
 
--- what is held is appended
-pub gathered_all : (s t u : FolderState) (bytes held : List ℕ) → Gathers s t bytes held → Appends t u held → Appends s u bytes
-gathered_all s t u bytes held first last = rw first.whole (appends_more s t u first.front held first.appended last)
-
 -- an append of what is held, and of a piece, fails before the rest
-pub gathers_fails : (s t u : FolderState) (bytes held piece rest : List ℕ) → Gathers s t bytes held → FailsToAppend t u (held ++ piece) → FailsToAppend s u (bytes ++ (piece ++ rest))
-gathers_fails s t u bytes held piece rest first fails =
+pub gathers_fails : AppendsFollow → (s t u : FolderState) (bytes held piece rest : List ℕ) → Gathers s t bytes held → FailsToAppend t u (held ++ piece) → FailsToAppend s u (bytes ++ (piece ++ rest))
+gathers_fails law s t u bytes held piece rest first fails =
     let whole : first.front ++ ((held ++ piece) ++ rest) ≡ bytes ++ (piece ++ rest) =
     ap (λ (b : List ℕ). first.front ++ b) (append_assoc held piece rest) ∙ (sym (append_assoc first.front held (piece ++ rest)) ∙ ap (λ (b : List ℕ). b ++ (piece ++ rest)) (sym first.whole)) in
-    subst (FailsToAppend s u) whole (fails_later s t u first.front (held ++ piece) rest first.appended fails)
+    subst (FailsToAppend s u) whole (law.later s t u first.front (held ++ piece) rest first.appended fails)
 
 -- an append of what is held fails
-pub gathered_fails : (s t u : FolderState) (bytes held : List ℕ) → Gathers s t bytes held → FailsToAppend t u held → FailsToAppend s u bytes
-gathered_fails s t u bytes held first fails = rw first.whole (fails_last s t u first.front held first.appended fails)
-
--- the file is still written
-pub still_writing : (s t : FolderState) (bytes held : List ℕ) → Gathers s t bytes held → IsWriting s → IsWriting t
-still_writing s t bytes held first writing = rw first.appended writing
-
-front_of : (new held : List ℕ) (end : ℕ) (bytes rest : List ℕ) → new ≡ (held ++ (bytes ++ [])) ++ rest → end ≡ length (held ++ (bytes ++ [])) → take end new ≡ held ++ bytes
-front_of new held end bytes rest whole end_is = rw (whole, end_is) (take-append_seam (held ++ (bytes ++ [])) rest) ∙ ap (λ (b : List ℕ). held ++ b) (append-nil bytes)
-
--- bytes were put behind those that a window holds
-pub put_behind : (old new : List ℕ) (held end : ℕ) (bytes : List ℕ) → held ≤ length old → ((base text : List ℕ) → IsFilled base old held text → IsFilled base new end (text ++ (bytes ++ []))) → take end new ≡ take held old ++ bytes
-put_behind old new held end bytes inside put =
-    let len : length (take held old) ≡ held = simp length-take (omega arith) in
-    let filled = put old (take held old) (record { front = rw len (sym (take-append-drop held old)); end = sym len }) in
-    front_of new _ end bytes _ filled.front filled.end
+pub gathered_fails : AppendsFollow → (s t u : FolderState) (bytes held : List ℕ) → Gathers s t bytes held → FailsToAppend t u held → FailsToAppend s u bytes
+gathered_fails law s t u bytes held first fails = rw first.whole (law.last s t u first.front held first.appended fails)
 
 -- ---- items in a row
 

@@ -1,11 +1,16 @@
 -- The file of a movie: `ftyp`, `moov` and `mdat` (ISO/IEC 14496-12, 4.3, 8.2.1 and 8.1.1).
-use Rattle.std.specs.Prelude.{ℕ, zero, suc, ◌+◌, ◌-◌, ◌^◌, Bool, true, false, ◌||◌, nat_lt, nat_le, List, [], ◌∷◌, ◌++◌, map, filter, length, get_or, codes, if◌then◌else◌}
+use Rattle.std.specs.Prelude.{ℕ, zero, suc, ◌≤◌, ◌+◌, ◌-◌, ◌^◌, Bool, true, false, ◌||◌, nat_lt, nat_le, List, [], ◌∷◌, ◌++◌, map, filter, length, get_or, codes, Option, if◌then◌else◌}
 use Rattle.std.specs.List.{list_all, range_with_len}
-use Rattle.mp_boxes.specs.Field.{box_bytes}
+use Rattle.mp_ports.specs.declared.code.Code.TheVariants.{MoovLimit}
+use Rattle.mp_ports.specs.declared.fault.Bad.{Bad}
+use Rattle.mp_ports.specs.Checks.{fault_at, first_code}
+use Rattle.mp_boxes.specs.Field.{Part, box_bytes}
 use Rattle.mp_boxes.specs.Header.{head_bytes}
+use Rattle.mp_boxes.specs.Table.{box_len}
 use Rattle.mp_headers.specs.FileType.{ftyp}
 use Rattle.mp_timeline.specs.Movie.{MovieRecord}
-use Rattle.mp_layout.specs.Order.{Chunk, chunks_of, payload, places_at}
+use Rattle.mp_movie.specs.Present.{most_moov}
+use Rattle.mp_layout.specs.Order.{Chunk, chunks_at, chunks_of, payload}
 use Rattle.mp_layout.specs.Moov.{moov}
 
 -- the header of `mdat` in front of so many bytes, with a size of 64 bits where 32 don't hold it
@@ -29,7 +34,7 @@ sets_of (suc tracks) = map (λ set. false ∷ set) (sets_of tracks) ++ map (λ s
 abbrev pub is_closed : MovieRecord → List Chunk → List Bool → Bool
 is_closed movie chunks wide =
     list_all
-    (λ position. get_or wide position true || list_all (λ place. nat_le place (2 ^ 32 - 1)) (places_at position (payload_place movie chunks wide) chunks))
+    (λ position. get_or wide position true || list_all (λ chunk. nat_le chunk.place (2 ^ 32 - 1)) (chunks_at position (payload_place movie chunks wide) chunks))
     (range_with_len 0 (length movie.tracks))
 
 -- the tracks with places of 64 bits: those in all closed sets, which is the least of them
@@ -45,3 +50,18 @@ file_bytes movie millis =
     let chunks = chunks_of millis movie in
     let wide = wide_tracks movie chunks in
     front_at movie chunks wide (payload_place movie chunks wide) ++ payload chunks
+
+-- the movie box of the file
+abbrev pub movie_box : MovieRecord → ℕ → Part
+movie_box movie millis =
+    let chunks = chunks_of millis movie in
+    let wide = wide_tracks movie chunks in
+    moov movie chunks wide (payload_place movie chunks wide)
+
+-- it is no longer than a file's may be
+abbrev pub HasShortMoov : MovieRecord → ℕ → Type 0
+HasShortMoov movie millis = box_len (movie_box movie millis) ≤ most_moov
+
+-- the refusal of a movie whose `moov` is longer: it has no place
+unfoldable pub moov_fault : MovieRecord → ℕ → Option Bad
+moov_fault movie millis = fault_at 0 (first_code ((nat_lt most_moov (box_len (movie_box movie millis)), MoovLimit) ∷ []))

@@ -1,9 +1,9 @@
-pub mod Durations
 pub mod Order
 pub mod Tables
 pub mod Moov
 pub mod File
+pub mod Example
+pub mod Law
+pub mod SingleTrack
 pub mod Plan
-pub mod Single
-pub mod Buffer
 pub mod Window

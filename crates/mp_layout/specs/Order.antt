@@ -2,8 +2,10 @@
 use Rattle.std.specs.Prelude.{ℕ, ◌+◌, ◌*◌, ◌/◌, ◌==◌, List, [], ◌∷◌, ◌++◌, map, length, filter, Bool, if◌then◌else◌}
 use Rattle.std.specs.List.{flat_map, range_with_len}
 use Rattle.mp_timeline.specs.Movie.{SampleRecord, TrackRecord, MovieRecord}
-use Rattle.mp_times.specs.Stretch.{Stretch, items_of, stretches}
-use Rattle.mp_layout.specs.Durations.{greatest}
+use Rattle.mp_columns.specs.Stretch.{Stretch, items_of, stretches}
+use Rattle.mp_chunks.specs.Written.{PlacedChunk}
+use Rattle.mp_movie.specs.Durations.{greatest}
+use Rattle.mp_movie.specs.Columns.{sizes}
 
 -- the window of a sample: how many whole windows of so many milliseconds lie before its decode time. With 0 there is one window
 abbrev pub window_of : ℕ → ℕ → SampleRecord → ℕ
@@ -48,13 +50,13 @@ chunk_bytes chunk = joined (items_of chunk.samples)
 unfoldable pub payload : List Chunk → List ℕ
 payload chunks = flat_map chunk_bytes chunks
 
--- the chunks of one track
-abbrev pub chunks_at : ℕ → List Chunk → List (Stretch SampleRecord)
-chunks_at position chunks = map (λ chunk. chunk.samples) (filter (λ chunk. chunk.track == position) chunks)
+-- the chunk, where its first byte stands there
+abbrev pub placed : ℕ → Chunk → PlacedChunk
+placed place chunk = record { place = place; entry = chunk.samples.first.entry; sizes = sizes (items_of chunk.samples) }
 
--- their places in the file, where the first chunk of the movie stands at `place`
-abbrev pub places_at : ℕ → ℕ → List Chunk → List ℕ
-places_at position place [] = []
-places_at position place (chunk ∷ chunks) =
-    let later = places_at position (place + length (chunk_bytes chunk)) chunks in
-    if chunk.track == position then place ∷ later else later
+-- the chunks of one track, each at its place, where the first chunk of the movie stands at `place`
+abbrev pub chunks_at : ℕ → ℕ → List Chunk → List PlacedChunk
+chunks_at position place [] = []
+chunks_at position place (chunk ∷ chunks) =
+    let later = chunks_at position (place + length (chunk_bytes chunk)) chunks in
+    if chunk.track == position then placed place chunk ∷ later else later

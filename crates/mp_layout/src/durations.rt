@@ -2,13 +2,14 @@
 ghost use Rattle.std.specs.Prelude.{◌≡◌, ◌*◌, ◌<◌, ◌≤◌, ◌^◌, length};
 ghost use Rattle.std.specs.List.{sum_by};
 ghost use Rattle.std.specs.Int.{div_ceil};
-ghost use Rattle.mp_layout.specs.Durations.{capped};
+ghost use Rattle.mp_boxes.specs.Table.{capped};
+ghost use Rattle.mp_columns.specs.declared.columns.TheConstants.{MOST_ITEMS};
 
 use mp_timeline::PlainSample;
 
 /// The sum of the samples' durations, in ticks of the track.
 pub fn total_duration(samples: &[PlainSample]) -> u64
-    requires { length samples.now ≤ 8388608 }
+    requires { length samples.now ≤ MOST_ITEMS }
     ensures total { result ≡ sum_by (λ sample. sample.dur) samples.now }
     ensures small { result < 2 ^ 55 }
 {

@@ -1,118 +1,66 @@
-// The header boxes of a movie and of its tracks, appended to a buffer.
-ghost use Rattle.std.specs.Prelude.{◌≡◌, ◌+◌, ◌<◌, ◌≤◌, ◌^◌, ◌++◌, length, take, OnOk};
-ghost use Rattle.mp_boxes.specs.Field.{body_bytes, box_bytes, leaf};
-ghost use Rattle.mp_headers.specs.FileType.{ftyp};
-ghost use Rattle.mp_headers.specs.MovieHeader.{mvhd};
-ghost use Rattle.mp_headers.specs.TrackHeader.{tkhd};
-ghost use Rattle.mp_headers.specs.MediaHeader.{mdhd};
-ghost use Rattle.mp_headers.specs.Handler.{hdlr};
-ghost use Rattle.mp_headers.specs.MediaInformation.{media_header};
-ghost use Rattle.mp_headers.specs.DataReference.{dinf};
-ghost use Rattle.mp_layout.specs.Buffer.{IsAppended};
+// The fields of the header boxes of a movie of one track that is shown as it is.
+ghost use Rattle.std.specs.Prelude.{◌≡◌, [], ◌∷◌};
+ghost use Rattle.mp_movie.specs.Heads.{media_fields, movie_fields, track_fields};
+ghost use Rattle.mp_movie.specs.Single.{IsPlainTrack};
 
-use crate::buffer::push_front;
-use mp_boxes::{Field, put_box};
-use mp_headers::{
-    Mdhd, Mvhd, Tkhd, put_dinf, put_ftyp, put_hdlr, put_mdhd, put_media_header, put_mvhd, put_tkhd,
-};
-use mp_ports::NoMemory;
+use crate::durations::{in_movie_ticks, total_duration};
+use mp_headers::{Mdhd, Mvhd, Tkhd};
+use mp_timeline::{PlainMovie, PlainTrack};
 
-/// The longest header box of a fixed length: `mvhd` in version 1.
-const HEAD_ROOM: usize = 120;
-
-/// The length of `hdlr` without its name.
-const HANDLER_LEN: usize = 32;
-
-fn blank() -> [u8; HEAD_ROOM] {
-    [0; HEAD_ROOM]
+/// The fields of the header of a movie of this one track.
+pub fn movie_header(movie: &PlainMovie, track: &PlainTrack) -> Mvhd
+    requires one_track { movie.now.tracks ≡ track.now ∷ [] }
+    requires plain { IsPlainTrack track.now }
+    ensures { result ≡ movie_fields movie.now }
+{
+    let head = &movie.head;
+    let duration = total_duration(&track.samples);
+    Mvhd {
+        created: head.created,
+        modified: head.modified,
+        timescale: movie.scale,
+        duration: in_movie_ticks(duration, track.scale, movie.scale),
+        rate: head.rate,
+        volume: head.volume,
+        matrix: head.matrix,
+        next_track: track.number.saturating_add(1),
+    }
 }
 
-/// Appends the box of these few fields.
-pub fn push_box(out: &mut Vec<u8>, kind: [u8; 4], fields: &[Field<'_>]) -> Result<(), NoMemory>
-    requires { 8 + length (body_bytes fields.now) ≤ 120 }
-    ensures { OnOk result (IsAppended out.old.items out.new.items 120 (box_bytes (leaf kind fields.now))) }
+/// The fields of the header of a track.
+pub fn track_header(movie_scale: u32, track: &PlainTrack) -> Tkhd
+    requires { IsPlainTrack track.now }
+    ensures { result ≡ track_fields movie_scale track.now }
 {
-    let mut room = blank();
-    let len = put_box(&mut room, kind, fields);
-    push_front(out, &room, len)
+    let head = &track.head;
+    let duration = total_duration(&track.samples);
+    Tkhd {
+        flags: head.flags,
+        created: head.created,
+        modified: head.modified,
+        number: track.number,
+        duration: in_movie_ticks(duration, track.scale, movie_scale),
+        layer: head.layer,
+        group: head.group,
+        volume: head.volume,
+        matrix: head.matrix,
+        width: head.width,
+        height: head.height,
+    }
 }
 
-/// Appends `ftyp`.
-pub fn push_ftyp(out: &mut Vec<u8>) -> Result<(), NoMemory>
-    ensures { OnOk result (IsAppended out.old.items out.new.items 120 (box_bytes ftyp)) }
+/// The fields of the media header of a track.
+pub fn media_header(track: &PlainTrack) -> Mdhd
+    requires { IsPlainTrack track.now }
+    ensures { result ≡ media_fields track.now }
 {
-    let mut room = blank();
-    let len = put_ftyp(&mut room);
-    push_front(out, &room, len)
-}
-
-/// Appends `mvhd`.
-#[tactic(auto, using(crate::proofs::Rooms::mvhd_room))]
-pub fn push_mvhd(out: &mut Vec<u8>, head: &Mvhd) -> Result<(), NoMemory>
-    requires { length head.now.matrix ≡ 36 }
-    ensures { OnOk result (IsAppended out.old.items out.new.items 120 (box_bytes (mvhd head.now))) }
-{
-    let mut room = blank();
-    let len = put_mvhd(&mut room, head);
-    push_front(out, &room, len)
-}
-
-/// Appends `tkhd`.
-#[tactic(auto, using(crate::proofs::Rooms::tkhd_room))]
-pub fn push_tkhd(out: &mut Vec<u8>, head: &Tkhd) -> Result<(), NoMemory>
-    requires flags { head.now.flags < 2 ^ 24 }
-    requires matrix { length head.now.matrix ≡ 36 }
-    ensures { OnOk result (IsAppended out.old.items out.new.items 120 (box_bytes (tkhd head.now))) }
-{
-    let mut room = blank();
-    let len = put_tkhd(&mut room, head);
-    push_front(out, &room, len)
-}
-
-/// Appends `mdhd`.
-pub fn push_mdhd(out: &mut Vec<u8>, head: &Mdhd) -> Result<(), NoMemory>
-    ensures { OnOk result (IsAppended out.old.items out.new.items 120 (box_bytes (mdhd head.now))) }
-{
-    let mut room = blank();
-    let len = put_mdhd(&mut room, head);
-    push_front(out, &room, len)
-}
-
-/// Writes `hdlr` from `at` to the end of `out`.
-fn put_hdlr_at(out: &mut [u8], at: usize, handler: [u8; 4], name: &[u8])
-    requires size { length name.now < 2 ^ 16 }
-    requires room { at + (32 + length name.now) ≡ length out.old }
-    ensures { out.new ≡ take at out.old ++ box_bytes (hdlr handler name.now) }
-{
-    put_hdlr(&mut out[at..], handler, name);
-}
-
-/// Appends `hdlr`.
-pub fn push_hdlr(out: &mut Vec<u8>, handler: [u8; 4], name: &[u8]) -> Result<(), NoMemory>
-    requires { length name.now < 2 ^ 16 }
-    ensures { OnOk result (IsAppended out.old.items out.new.items (32 + length name.now) (box_bytes (hdlr handler name.now))) }
-{
-    let at = out.len();
-    out.resize(at + HANDLER_LEN + name.len(), 0)?;
-    put_hdlr_at(out, at, handler, name);
-    Ok(())
-}
-
-/// Appends the media header that goes with the handler.
-pub fn push_media_header(out: &mut Vec<u8>, handler: [u8; 4]) -> Result<(), NoMemory>
-    ensures { OnOk result (IsAppended out.old.items out.new.items 120 (box_bytes (media_header handler))) }
-{
-    let mut room = blank();
-    let len = put_media_header(&mut room, handler);
-    push_front(out, &room, len)
-}
-
-/// Appends `dinf`.
-#[tactic(auto, using(crate::proofs::Rooms::dinf_room))]
-pub fn push_dinf(out: &mut Vec<u8>) -> Result<(), NoMemory>
-    ensures { OnOk result (IsAppended out.old.items out.new.items 120 (box_bytes dinf)) }
-{
-    let mut room = blank();
-    let len = put_dinf(&mut room);
-    push_front(out, &room, len)
+    let head = &track.head;
+    let duration = total_duration(&track.samples);
+    Mdhd {
+        created: head.media_created,
+        modified: head.media_modified,
+        timescale: track.scale,
+        duration,
+        language: head.language,
+    }
 }

@@ -1,26 +1,49 @@
-// The law of the format.
-ghost use Rattle.std.specs.Prelude.{◌≡◌, Some};
-ghost use Rattle.mp_timeline.specs.Movie.{MovieRecord};
-ghost use Rattle.mp_timeline.specs.Present.{present, Presents};
-ghost use Rattle.mp_timeline.specs.Single.{IsSingle};
-ghost use Rattle.mp_layout.specs.File.{file_bytes};
+//! The law of the format, and a file by hand: calls that do nothing, whose contracts are the laws.
 
-use mp_boxes::{boxes_are_read, parts_are_read};
-use mp_entries::entries_are_kept;
+ghost use Rattle.std.specs.Prelude.{◌≡◌, Some};
+ghost use Rattle.mp_movie.specs.Present.{present};
+ghost use Rattle.mp_layout.specs.Example.{example_file, example_movie};
+ghost use Rattle.mp_layout.specs.File.{file_bytes};
+ghost use Rattle.mp_layout.specs.Law.{FilesPresentMovies, SinglesAreShort};
+
+use mp_boxes::{boxes_are_read, boxes_have_lengths, heads_are_read, parts_are_read};
+use mp_chunks::{places_are_read, places_change_no_length};
+use mp_edits::edits_are_read;
+use mp_entries::{descriptions_are_read, references_are_read};
 use mp_headers::headers_are_read;
-use mp_timeline::sameness_is_equality;
+use mp_movie::same_movie_is_presented;
 use mp_times::tables_are_read;
 
-/// The file of a movie presents exactly the movie, and so the same movie. The call does nothing; its
-/// contract is this law.
+/// The file of a movie presents exactly the movie, and so the same movie, and none of its checks fails:
+/// for each well-formed movie within the limits, and its samples in windows of any length.
 pub fn file_presents_movie()
-    ensures exact { (movie : MovieRecord) → IsSingle movie → present (file_bytes movie 0) ≡ Some movie }
-    ensures same { (movie : MovieRecord) → IsSingle movie → Presents (file_bytes movie 0) movie }
+    ensures { FilesPresentMovies }
 {
     boxes_are_read();
+    heads_are_read();
     parts_are_read();
+    boxes_have_lengths();
     headers_are_read();
-    entries_are_kept();
+    references_are_read();
+    descriptions_are_read();
     tables_are_read();
-    sameness_is_equality();
+    edits_are_read();
+    places_are_read();
+    places_change_no_length();
+    same_movie_is_presented();
 }
+
+/// The `moov` of a movie of one track that is shown as it is, in one window, is short enough for a file.
+pub fn single_is_short()
+    ensures { SinglesAreShort }
+{
+    boxes_have_lengths();
+    places_change_no_length();
+}
+
+/// A file by hand, of two tracks in windows of a second, with edits, offsets below 0, sync marks, two entries
+/// and user data: it is what is written of its movie, and it presents that movie.
+pub fn file_by_hand_is_written_and_read()
+    ensures written { file_bytes example_movie 1000 ≡ example_file }
+    ensures read { present example_file ≡ Some example_movie }
+{}

@@ -2,23 +2,21 @@
 //!
 //! `plan_file` makes all that stands in front of the samples' bytes, and takes all memory that is
 //! needed. `emit` then appends the file to a folder, the samples' bytes as they stand. The plan is
-//! made for a movie of one track that is shown as it is.
+//! made for a movie of one track that is shown as it is. The law of the format holds for every movie.
 #![tactic(auto)]
 
-mod buffer;
+mod columns;
 mod durations;
 mod heads;
 mod law;
 mod moov;
 mod output;
 mod plan;
-mod tables;
-mod times;
-mod window;
-
-pub use law::file_presents_movie;
-pub use output::emit;
-pub use plan::{FilePlan, plan_file};
-
+mod stbl;
 #[cfg(test)]
 mod tests;
+mod window;
+
+pub use law::{file_by_hand_is_written_and_read, file_presents_movie, single_is_short};
+pub use output::emit;
+pub use plan::{FilePlan, plan_file};

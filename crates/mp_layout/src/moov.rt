@@ -1,181 +1,135 @@
-// The movie box of a movie of one track, whose samples are one chunk.
-ghost use Rattle.std.specs.Prelude.{◌≡◌, ◌+◌, ◌<◌, ◌^◌, [], ◌∷◌, false, length, IfSome, OnOk, Some};
-ghost use Rattle.std.specs.List.{sum_by};
-ghost use Rattle.mp_boxes.specs.Field.{box_bytes, boxes_bytes, optional};
-ghost use Rattle.mp_headers.specs.MovieHeader.{mvhd};
-ghost use Rattle.mp_headers.specs.TrackHeader.{tkhd};
-ghost use Rattle.mp_headers.specs.MediaHeader.{mdhd};
-ghost use Rattle.mp_edits.specs.Segments.{IsEditList};
-ghost use Rattle.mp_timeline.specs.Single.{IsPlainTrack, IsSingle};
-ghost use Rattle.mp_layout.specs.Buffer.{IsAppended};
+// The movie box of a movie of one track that is shown as it is, whose samples are one chunk. The
+// length of each box is known before its bytes.
+ghost use Rattle.std.specs.Prelude.{◌≡◌, ℕ, [], ◌∷◌, false};
+ghost use Rattle.mp_boxes.specs.Field.{box_bytes};
+ghost use Rattle.mp_boxes.specs.Push.{IsPushed};
+ghost use Rattle.mp_boxes.specs.Table.{HasLen};
+ghost use Rattle.mp_movie.specs.Single.{IsPlainTrack, IsSingle};
+ghost use Rattle.mp_layout.specs.Moov.{dinf, mdia, minf, moov, trak};
 ghost use Rattle.mp_layout.specs.Order.{chunks_of};
-ghost use Rattle.mp_layout.specs.Moov.{movie_header, track_header, media_head, minf, mdia, edts, trak, moov};
-ghost use Rattle.mp_layout.specs.Single.{one_chunk};
+ghost use Rattle.mp_layout.specs.SingleTrack.{all_samples, columns_of, one_chunk};
 
-use crate::buffer::{close_box, open_box};
-use crate::durations::{in_movie_ticks, total_duration};
-use crate::heads::{push_dinf, push_hdlr, push_mdhd, push_media_header, push_mvhd, push_tkhd};
-use crate::tables::push_stbl;
-use mp_edits::put_elst;
-use mp_headers::{Mdhd, Mvhd, Tkhd};
-use mp_ports::NoMemory;
-use mp_timeline::{PlainMovie, PlainTrack, Segment};
-use std::alloc::Global;
+use crate::columns::Columns;
+use crate::heads::{media_header, movie_header, track_header};
+use crate::stbl::{push_stbl, stbl_len};
+use mp_boxes::{begin_box, box_len, sum_len};
+use mp_entries::{dref_len, push_dref};
+use mp_headers::{
+    hdlr_len, mdhd_len, media_header_len, mvhd_len, push_hdlr, push_mdhd, push_media_header,
+    push_mvhd, push_tkhd, tkhd_len,
+};
+use mp_timeline::{PlainMovie, PlainTrack};
 
-/// The fields of the movie header of a movie of this one track, whose samples last so long together.
-fn movie_header(movie: &PlainMovie, track: &PlainTrack, duration: u64) -> Mvhd
-    requires one_track { movie.now.tracks ≡ track.now ∷ [] }
+/// The length of `dinf`.
+fn dinf_len() -> u64
+    ensures { HasLen result dinf }
+{
+    box_len(&[], dref_len())
+}
+
+/// Pushes `dinf`: the data is in the file itself.
+fn push_dinf(out: &mut Vec<u8>)
+    ensures { IsPushed out.old out.new (box_bytes dinf) }
+{
+    begin_box(out, *b"dinf", &[], dinf_len());
+    push_dref(out);
+}
+
+/// The length of `minf`, wherever the chunk stands.
+fn minf_len(track: &PlainTrack, columns: &Columns) -> u64
     requires plain { IsPlainTrack track.now }
-    requires duration { duration ≡ sum_by (λ sample. sample.dur) track.now.samples }
-    ensures { mvhd result ≡ movie_header movie.now }
+    requires columns { columns.now ≡ columns_of track.now.samples }
+    ensures { (place : ℕ) → HasLen result (minf track.now (one_chunk track.now place)) }
 {
-    let head = &movie.head;
-    Mvhd {
-        created: head.created,
-        modified: head.modified,
-        timescale: movie.scale,
-        duration: in_movie_ticks(duration, track.scale, movie.scale),
-        rate: head.rate,
-        volume: head.volume,
-        matrix: head.matrix,
-        next_track: track.number.saturating_add(1),
-    }
+    let head = &track.head;
+    let header = media_header_len(head.handler);
+    let reference = dinf_len();
+    let tables = stbl_len(track, columns);
+    box_len(&[], sum_len(&[header, reference, tables]))
 }
 
-/// The fields of the header of a track, whose samples last so long together.
-fn track_header(movie_scale: u32, track: &PlainTrack, duration: u64) -> Tkhd
+/// Pushes `minf`, where the chunk stands at the place.
+fn push_minf(track: &PlainTrack, columns: &Columns, place: u32, out: &mut Vec<u8>)
     requires plain { IsPlainTrack track.now }
-    requires duration { duration ≡ sum_by (λ sample. sample.dur) track.now.samples }
-    ensures head { tkhd result ≡ track_header movie_scale track.now }
-    ensures flags { result.flags < 2 ^ 24 }
+    requires columns { columns.now ≡ columns_of track.now.samples }
+    ensures { IsPushed out.old out.new (box_bytes (minf track.now (one_chunk track.now place))) }
 {
     let head = &track.head;
-    Tkhd {
-        flags: head.flags,
-        created: head.created,
-        modified: head.modified,
-        number: track.number,
-        duration: in_movie_ticks(duration, track.scale, movie_scale),
-        layer: head.layer,
-        group: head.group,
-        volume: head.volume,
-        matrix: head.matrix,
-        width: head.width,
-        height: head.height,
-    }
+    begin_box(out, *b"minf", &[], minf_len(track, columns));
+    push_media_header(head.handler, out);
+    push_dinf(out);
+    push_stbl(track, columns, place, out);
 }
 
-/// The fields of the media header of a track, whose samples last so long together.
-fn media_head(track: &PlainTrack, duration: u64) -> Mdhd
-    requires fits { duration < 2 ^ 64 }
-    requires duration { duration ≡ sum_by (λ sample. sample.dur) track.now.samples }
-    ensures { mdhd result ≡ media_head track.now }
+/// The length of `mdia`, wherever the chunk stands.
+fn mdia_len(track: &PlainTrack, columns: &Columns) -> u64
+    requires plain { IsPlainTrack track.now }
+    requires columns { columns.now ≡ columns_of track.now.samples }
+    ensures { (place : ℕ) → HasLen result (mdia track.now (one_chunk track.now place)) }
 {
     let head = &track.head;
-    Mdhd {
-        created: head.media_created,
-        modified: head.media_modified,
-        timescale: track.scale,
-        duration,
-        language: head.language,
-    }
+    let header = mdhd_len(&media_header(track));
+    let handler = hdlr_len(&head.handler, &head.name);
+    let information = minf_len(track, columns);
+    box_len(&[], sum_len(&[header, handler, information]))
 }
 
-/// Appends `minf`.
-fn push_minf(
-    alloc: Global,
-    out: &mut Vec<u8>,
-    track: &PlainTrack,
-    place: u32,
-) -> Result<(), NoMemory>
-    requires { IsPlainTrack track.now }
-    ensures { OnOk result (IsAppended out.old.items out.new.items (2 ^ 29 + 2 ^ 10) (box_bytes (minf track.now (one_chunk track.now place)))) }
+/// Pushes `mdia`, where the chunk stands at the place.
+fn push_mdia(track: &PlainTrack, columns: &Columns, place: u32, out: &mut Vec<u8>)
+    requires plain { IsPlainTrack track.now }
+    requires columns { columns.now ≡ columns_of track.now.samples }
+    ensures { IsPushed out.old out.new (box_bytes (mdia track.now (one_chunk track.now place))) }
 {
     let head = &track.head;
-    let at = open_box(out, *b"minf")?;
-    push_media_header(out, head.handler)?;
-    push_dinf(out)?;
-    push_stbl(alloc, out, track, place)?;
-    close_box(out, at);
-    Ok(())
+    begin_box(out, *b"mdia", &[], mdia_len(track, columns));
+    push_mdhd(&media_header(track), out);
+    push_hdlr(&head.handler, &head.name, out);
+    push_minf(track, columns, place, out);
 }
 
-/// Appends `mdia`.
-fn push_mdia(
-    alloc: Global,
-    out: &mut Vec<u8>,
-    track: &PlainTrack,
-    place: u32,
-) -> Result<(), NoMemory>
-    requires { IsPlainTrack track.now }
-    ensures { OnOk result (IsAppended out.old.items out.new.items (2 ^ 30) (box_bytes (mdia track.now (one_chunk track.now place)))) }
+/// The length of `trak`, wherever the chunk stands.
+fn trak_len(movie_scale: u32, track: &PlainTrack, columns: &Columns) -> u64
+    requires plain { IsPlainTrack track.now }
+    requires columns { columns.now ≡ columns_of track.now.samples }
+    ensures { (place : ℕ) → HasLen result (trak movie_scale track.now (one_chunk track.now place)) }
 {
-    let head = &track.head;
-    let at = open_box(out, *b"mdia")?;
-    push_mdhd(out, &media_head(track, total_duration(&track.samples)))?;
-    push_hdlr(out, head.handler, &head.name)?;
-    push_minf(alloc, out, track, place)?;
-    close_box(out, at);
-    Ok(())
+    let header = tkhd_len(&track_header(movie_scale, track));
+    let media = mdia_len(track, columns);
+    box_len(&[], sum_len(&[header, media]))
 }
 
-/// Appends `edts` of these edits.
-fn push_edit_list(out: &mut Vec<u8>, edits: &[Segment]) -> Result<(), NoMemory>
-    requires { IsEditList edits.now }
-    ensures { OnOk result (IsAppended out.old.items out.new.items (2 ^ 21) (boxes_bytes (optional (edts (Some edits.now))))) }
+/// Pushes `trak`, where the chunk stands at the place.
+fn push_trak(movie_scale: u32, track: &PlainTrack, columns: &Columns, place: u32, out: &mut Vec<u8>)
+    requires plain { IsPlainTrack track.now }
+    requires columns { columns.now ≡ columns_of track.now.samples }
+    ensures { IsPushed out.old out.new (box_bytes (trak movie_scale track.now (one_chunk track.now place))) }
 {
-    let at = open_box(out, *b"edts")?;
-    put_elst(edits, out)?;
-    close_box(out, at);
-    Ok(())
+    let len = trak_len(movie_scale, track, columns);
+    begin_box(out, *b"trak", &[], len);
+    push_tkhd(&track_header(movie_scale, track), out);
+    push_mdia(track, columns, place, out);
 }
 
-/// Appends `edts`, where there are edits.
-fn push_edts(out: &mut Vec<u8>, track: &PlainTrack) -> Result<(), NoMemory>
-    requires { IfSome track.now.edits (λ edits. IsEditList edits) }
-    ensures { OnOk result (IsAppended out.old.items out.new.items (2 ^ 21) (boxes_bytes (optional (edts track.now.edits)))) }
-{
-    match &track.edits {
-        Some(edits) => push_edit_list(out, edits),
-        None => Ok(()),
-    }
-}
-
-/// Appends `trak`.
-fn push_trak(
-    alloc: Global,
-    out: &mut Vec<u8>,
-    movie_scale: u32,
-    track: &PlainTrack,
-    place: u32,
-) -> Result<(), NoMemory>
-    requires { IsPlainTrack track.now }
-    ensures { OnOk result (IsAppended out.old.items out.new.items (2 ^ 30 + 2 ^ 22) (box_bytes (trak movie_scale track.now (one_chunk track.now place)))) }
-{
-    let at = open_box(out, *b"trak")?;
-    let duration = total_duration(&track.samples);
-    push_tkhd(out, &track_header(movie_scale, track, duration))?;
-    push_edts(out, track)?;
-    push_mdia(alloc, out, track, place)?;
-    close_box(out, at);
-    Ok(())
-}
-
-/// Appends `moov`. Its last four bytes are the place of the one chunk.
-pub fn push_moov(
-    alloc: Global,
-    out: &mut Vec<u8>,
-    movie: &PlainMovie,
-    place: u32,
-) -> Result<(), NoMemory>
-    requires { IsSingle movie.now }
-    ensures { OnOk result (IsAppended out.old.items out.new.items (2 ^ 31) (box_bytes (moov movie.now (chunks_of 0 movie.now) (false ∷ []) place))) }
+/// The length of `moov`, wherever the chunk stands.
+pub fn moov_len(movie: &PlainMovie, columns: &Columns) -> u64
+    requires single { IsSingle movie.now }
+    requires columns { columns.now ≡ columns_of (all_samples movie.now) }
+    ensures { (place : ℕ) → HasLen result (moov movie.now (chunks_of 0 movie.now) (false ∷ []) place) }
 {
     let track = &movie.tracks[0];
-    let at = open_box(out, *b"moov")?;
-    let duration = total_duration(&track.samples);
-    push_mvhd(out, &movie_header(movie, track, duration))?;
-    push_trak(alloc, out, movie.scale, track, place)?;
-    close_box(out, at);
-    Ok(())
+    let header = mvhd_len(&movie_header(movie, track));
+    let only = trak_len(movie.scale, track, columns);
+    box_len(&[], sum_len(&[header, only]))
+}
+
+/// Pushes `moov`, where the chunk stands at the place.
+pub fn push_moov(movie: &PlainMovie, columns: &Columns, place: u32, out: &mut Vec<u8>)
+    requires single { IsSingle movie.now }
+    requires columns { columns.now ≡ columns_of (all_samples movie.now) }
+    ensures { IsPushed out.old out.new (box_bytes (moov movie.now (chunks_of 0 movie.now) (false ∷ []) place)) }
+{
+    let track = &movie.tracks[0];
+    begin_box(out, *b"moov", &[], moov_len(movie, columns));
+    push_mvhd(&movie_header(movie, track), out);
+    push_trak(movie.scale, track, columns, place, out);
 }

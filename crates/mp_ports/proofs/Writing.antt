@@ -14,7 +14,7 @@ part_of_whole done piece rest k =
     sym (take-append-add done (piece ++ rest) (min k (length piece)) ∙ ap (λ t. done ++ t) (take-append-le (min k (length piece)) piece rest short ∙ take_min k piece))
 
 -- a piece that follows another follows as one with it
-pub followed_by-append : (told : Option (List ℕ)) (done piece : List ℕ)
+followed_by-append : (told : Option (List ℕ)) (done piece : List ℕ)
     → followed_by (followed_by told done) piece ≡ followed_by told (done ++ piece)
 followed_by-append None done piece = refl
 followed_by-append (Some w) done piece = ap Some (append_assoc w done piece)

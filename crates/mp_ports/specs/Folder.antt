@@ -104,3 +104,18 @@ abbrev pub Finishes : FolderState → FolderState → Type 0
 Finishes old new = new ≡ record old {
   output = option_map {T = Output} (λ out. record out { finished = true }) old.output;
 }
+
+-- several appends in a row are one append of the whole, whether all are made or one of them fails
+pub record AppendsFollow : Type 0 where
+  -- one append after what is done
+  pub more : (s t u : FolderState) (done piece : List ℕ)
+      → Appends s t done → Appends t u piece → Appends s u (done ++ piece)
+  -- the first fails, and the rest isn't made
+  pub first : (s t : FolderState) (piece rest : List ℕ)
+      → FailsToAppend s t piece → FailsToAppend s t (piece ++ rest)
+  -- one fails after what is done, and the rest isn't made
+  pub later : (s t u : FolderState) (done piece rest : List ℕ)
+      → Appends s t done → FailsToAppend t u piece → FailsToAppend s u (done ++ (piece ++ rest))
+  -- the last fails
+  pub last : (s t u : FolderState) (done piece : List ℕ)
+      → Appends s t done → FailsToAppend t u piece → FailsToAppend s u (done ++ piece)

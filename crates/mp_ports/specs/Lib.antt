@@ -5,5 +5,6 @@ pub mod Report
 pub mod Calls
 pub mod Memory
 pub mod Code
-pub mod Answer
+pub mod Checks
+pub mod Gives
 pub mod Reading

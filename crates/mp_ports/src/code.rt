@@ -1,4 +1,5 @@
-// Why an input or a command is refused: a number that users see, and its name.
+//! Why an input or a command is refused: a number that users see, and its name.
+
 ghost use Rattle.std.specs.Prelude.{◌≡◌};
 ghost use Rattle.mp_ports.specs.Code.{number, name};
 

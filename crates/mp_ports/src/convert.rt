@@ -1,4 +1,5 @@
-// What `?` makes of one answer of failure in a function that answers another.
+//! What `?` makes of one answer of failure in a function that answers another.
+
 use crate::{Bad, Fail, NoMemory, PortFault, ReadFail};
 use std::alloc::{AllocError, AllocFailed};
 
@@ -116,7 +117,7 @@ impl From<PortFault> for ReadFail {
 
 impl From<Fail> for ReadFail {
     ghost use Rattle.std.specs.Prelude.{◌≡◌};
-    ghost use Rattle.mp_ports.specs.Answer.{read_fail};
+    ghost use Rattle.mp_ports.specs.Gives.{read_fail};
 
     ghost from_gives = { λ fail read. read ≡ read_fail fail };
 

@@ -1,4 +1,5 @@
-// Counts of faults and of calls.
+//! Counts of faults and of calls.
+
 ghost use Rattle.std.specs.Prelude.{◌≡◌};
 ghost use Rattle.mp_ports.specs.Count.{after_fault};
 

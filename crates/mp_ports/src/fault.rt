@@ -1,6 +1,7 @@
-// What a call answers where it doesn't do its work.
+//! What a call answers where it doesn't do its work.
+
 ghost use Rattle.std.specs.Prelude.{◌≡◌};
-ghost use Rattle.mp_ports.specs.Answer.{bad_at};
+ghost use Rattle.mp_ports.specs.Checks.{bad_at};
 
 use crate::Code;
 use thiserror::Error;

@@ -1,6 +1,9 @@
-// A folder of files: some are read, and one is written.
-ghost use Rattle.std.specs.Prelude.{◌≡◌, ◌+◌, ◌-◌, ◌^◌, ◌<◌, ◌≤◌, length, None, IfOk, OnOk, OnErr, IsErrOf, IfSome, string_bytes};
-ghost use Rattle.mp_ports.specs.Folder.{FolderState, Opens, Misses, FailsToRead, FailsToWrite, ReadsFrom, Creates, IsWriting, Appends, FailsToAppend, Finishes, opened_at};
+//! A folder of files: some are read, and one is written.
+
+ghost use Rattle.std.specs.Prelude.{◌≡◌, ◌+◌, ◌-◌, ◌^◌, ◌<◌, ◌≤◌, length, None, string_bytes};
+ghost use Rattle.std.specs.Prelude.{IfOk, OnOk, OnErr, IsErrOf, IfSome};
+ghost use Rattle.mp_ports.specs.Folder.{FolderState, Opens, Misses, FailsToRead, ReadsFrom, opened_at};
+ghost use Rattle.mp_ports.specs.Folder.{Creates, IsWriting, Appends, FailsToAppend, Finishes, FailsToWrite};
 
 use crate::{OpenFail, PortFault};
 

@@ -1,4 +1,5 @@
-// A file that a folder in memory holds, and where a name is found.
+//! A file that a folder in memory holds, and where a name is found.
+
 ghost use Rattle.std.specs.Prelude.{◌≡◌, ◌<◌, length, None, IfNone, IfSome};
 ghost use Rattle.mp_ports.specs.Folder.{bytes_under};
 ghost use Rattle.mp_ports.specs.Memory.{opened_file};
@@ -23,7 +24,7 @@ impl Model for MemFile {
     ghost view = { λ f. record { name = string_bytes f.name; bytes = f.bytes.items } };
 }
 
-// The place of the first file of that name.
+/// The place of the first file of that name.
 pub(crate) fn place_of(files: &[MemFile], name: &str) -> Option<usize>
     ensures none { IfNone result (bytes_under name.now files.now ≡ None) }
     ensures within { IfSome result (λ at. at < length files.now) }

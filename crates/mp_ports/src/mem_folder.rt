@@ -1,6 +1,9 @@
-// A folder in memory, whose calls fail where they are told to.
-ghost use Rattle.std.specs.Prelude.{◌≡◌, ◌+◌, ◌-◌, ◌^◌, ◌<◌, ◌≤◌, ◌↔◌, ◌⊎◌, [], length, Some, None, IsTrue, IsOk, IsErr, IfOk, OnOk, OnErr, IsErrOf, IsSome, IsSomeAnd, string_bytes, true};
-ghost use Rattle.mp_ports.specs.Folder.{Opens, Misses, FailsToRead, FailsToWrite, ReadsFrom, Creates, IsWriting, Appends, FailsToAppend, Finishes, opened_at};
+//! A folder in memory, whose calls fail where they are told to.
+
+ghost use Rattle.std.specs.Prelude.{◌≡◌, ◌+◌, ◌-◌, ◌^◌, ◌<◌, ◌≤◌, ◌↔◌, ◌⊎◌, [], length, Some, None, string_bytes, true};
+ghost use Rattle.std.specs.Prelude.{IsTrue, IsOk, IsErr, IfOk, OnOk, OnErr, IsErrOf, IsSome, IsSomeAnd};
+ghost use Rattle.mp_ports.specs.Folder.{Opens, Misses, FailsToRead, ReadsFrom, opened_at};
+ghost use Rattle.mp_ports.specs.Folder.{Creates, IsWriting, Appends, FailsToAppend, Finishes, FailsToWrite};
 ghost use Rattle.mp_ports.specs.Calls.{called, FailsNext};
 ghost use Rattle.mp_ports.specs.Memory.{Counts, half_of};
 ghost use Rattle.mp_ports.specs.Told.{followed_by};

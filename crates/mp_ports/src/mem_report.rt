@@ -1,4 +1,5 @@
-// A report in memory, whose calls fail where they are told to.
+//! A report in memory, whose calls fail where they are told to.
+
 ghost use Rattle.std.specs.Prelude.{◌≡◌, ◌+◌, ◌≤◌, ◌↔◌, ◌⊎◌, [], length, Some, IsOk, IsErr, OnOk, OnErr};
 ghost use Rattle.mp_ports.specs.Calls.{called, FailsNext};
 ghost use Rattle.mp_ports.specs.Memory.{half_of};

@@ -1,4 +1,5 @@
-// What is said to the user.
+//! What is said to the user.
+
 ghost use Rattle.std.specs.Prelude.{OnOk, OnErr};
 ghost use Rattle.mp_ports.specs.Report.{ReportState, Says, FailsToSay};
 

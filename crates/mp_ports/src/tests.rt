@@ -1,4 +1,5 @@
-// Each call of the objects in memory, and what it leaves: in turn whole, failing, and out of room.
+//! Each call of the objects in memory, and what it leaves: in turn whole, failing, and out of room.
+
 ghost use Rattle.std.specs.Prelude.{◌≡◌, [], None, Ok, Err, IfOk};
 
 use crate::{

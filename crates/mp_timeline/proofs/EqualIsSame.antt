@@ -4,9 +4,9 @@ use Rattle.std.specs.List.{AllZip, AllByRecursion}
 use Rattle.mp_timeline.specs.declared.segment.Segment.{Segment}
 use Rattle.mp_timeline.specs.declared.segment.Segment.TheVariants.{Empty, Media}
 use Rattle.mp_timeline.specs.Movie.{SampleRecord, TrackRecord, MovieRecord}
-use Rattle.mp_timeline.specs.Same.{IsSameTime, IsSameSample, IsSameSegment, IsSameEdits, IsSameTrack, IsSame, HasScales}
+use Rattle.mp_timeline.specs.Same.{IsSameTicks, IsSameSample, IsSameSegment, IsSameEdits, IsSameTrack, IsSame, HasScales}
 
-same_time : (scale : ℕ) (ticks : ℤ) → 0 < scale → IsSameTime scale scale ticks ticks
+same_time : (scale : ℕ) (ticks : ℤ) → 0 < scale → IsSameTicks scale scale ticks ticks
 same_time scale ticks some = record { positive = some; other_positive = some; crosswise = refl }
 
 same_samples : (scale : ℕ) → 0 < scale → (samples : List SampleRecord) → AllZip (IsSameSample scale scale) samples samples

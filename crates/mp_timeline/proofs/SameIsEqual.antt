@@ -7,7 +7,7 @@ use Rattle.std.proofs.lemmas.Int.{ints}
 use Rattle.mp_timeline.specs.declared.segment.Segment.{Segment}
 use Rattle.mp_timeline.specs.declared.segment.Segment.TheVariants.{Empty, Media}
 use Rattle.mp_timeline.specs.Movie.{SampleRecord, TrackRecord, MovieRecord}
-use Rattle.mp_timeline.specs.Same.{IsSameTime, IsSameSample, IsSameSegment, IsSameEdits, IsSameTrack, IsSame}
+use Rattle.mp_timeline.specs.Same.{IsSameTicks, IsSameSample, IsSameSegment, IsSameEdits, IsSameTrack, IsSame}
 
 pos_inj : (m n : ℕ) → pos m ≡ pos n → m ≡ n
 pos_inj m n e = cc
@@ -28,10 +28,10 @@ cancel (negsuc m) (negsuc n) s some e =
     let equal : suc m ≡ suc n = eq_of_mul-eq-mul_right s some (suc m) (suc n) both in
     ap negsuc (omega arith)
 
-ticks_equal : (scale : ℕ) (ticks other : ℤ) → IsSameTime scale scale ticks other → ticks ≡ other
+ticks_equal : (scale : ℕ) (ticks other : ℤ) → IsSameTicks scale scale ticks other → ticks ≡ other
 ticks_equal scale ticks other h = cancel ticks other scale h.positive h.crosswise
 
-whole_equal : (scale m n : ℕ) → IsSameTime scale scale (pos m) (pos n) → m ≡ n
+whole_equal : (scale m n : ℕ) → IsSameTicks scale scale (pos m) (pos n) → m ≡ n
 whole_equal scale m n h = pos_inj m n (ticks_equal scale (pos m) (pos n) h)
 
 sample_equal : (scale : ℕ) (sample other : SampleRecord) → IsSameSample scale scale sample other → sample ≡ other

@@ -1,11 +1,3 @@
 pub mod Movie
 pub mod Same
-pub mod Answer
-pub mod Children
-pub mod Entries
-pub mod SampleTable
-pub mod Present
-pub mod Example
-pub mod OtherExample
-pub mod Single
 pub mod Plain

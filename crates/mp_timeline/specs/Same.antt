@@ -1,30 +1,29 @@
 -- When two times, and two movies, are the same.
-use Rattle.std.specs.Prelude.{◌≡◌, ℕ, ℤ, pos, ◌*ℤ◌, ◌<◌, ⊤, List, Option, Some, None}
+use Rattle.std.specs.Prelude.{◌≡◌, ℕ, ℤ, pos, ◌<◌, ⊤, List, Option, Some, None}
 use Rattle.std.specs.List.{AllZip, AllByRecursion}
+use Rattle.mp_frac.specs.Time.{IsSameTime, in_ticks}
 use Rattle.mp_timeline.specs.declared.segment.Segment.{Segment}
 use Rattle.mp_timeline.specs.declared.segment.Segment.TheVariants.{Empty, Media}
 use Rattle.mp_timeline.specs.Movie.{SampleRecord, TrackRecord, MovieRecord}
 
--- so many ticks of so many a second, as fractions of a second
-pub record IsSameTime (scale other_scale : ℕ) (ticks other : ℤ) : Type 0 where
-  pub positive : 0 < scale
-  pub other_positive : 0 < other_scale
-  pub crosswise : ticks *ℤ pos other_scale ≡ other *ℤ pos scale
+-- so many ticks of so many a second, as times
+abbrev pub IsSameTicks : (scale other_scale : ℕ) (ticks other : ℤ) → Type 0
+IsSameTicks scale other_scale ticks other = IsSameTime (in_ticks ticks scale) (in_ticks other other_scale)
 
 -- the same bytes, mark and entry at the same times, each over the scale of its track
 pub record IsSameSample (scale other_scale : ℕ) (sample other : SampleRecord) : Type 0 where
   pub bytes : sample.bytes ≡ other.bytes
-  pub decode : IsSameTime scale other_scale (pos sample.decode) (pos other.decode)
-  pub dur : IsSameTime scale other_scale (pos sample.dur) (pos other.dur)
-  pub comp : IsSameTime scale other_scale sample.comp other.comp
+  pub decode : IsSameTicks scale other_scale (pos sample.decode) (pos other.decode)
+  pub dur : IsSameTicks scale other_scale (pos sample.dur) (pos other.dur)
+  pub comp : IsSameTicks scale other_scale sample.comp other.comp
   pub sync : sample.sync ≡ other.sync
   pub entry : sample.entry ≡ other.entry
 
 -- both empty, or both of the media, from the same time for the same time
 abbrev pub IsSameSegment : (movie other_movie scale other_scale : ℕ) → Segment → Segment → Type 0
-IsSameSegment movie other_movie scale other_scale (Empty dur) (Empty other) = IsSameTime movie other_movie (pos dur) (pos other)
+IsSameSegment movie other_movie scale other_scale (Empty dur) (Empty other) = IsSameTicks movie other_movie (pos dur) (pos other)
 IsSameSegment movie other_movie scale other_scale (Media start dur) (Media other_start other) =
-    IsSameTime scale other_scale (pos start) (pos other_start) × IsSameTime movie other_movie (pos dur) (pos other)
+    IsSameTicks scale other_scale (pos start) (pos other_start) × IsSameTicks movie other_movie (pos dur) (pos other)
 IsSameSegment movie other_movie scale other_scale _ _ = ⊥
 
 -- no edit list in both, or one of the same segments
@@ -52,3 +51,8 @@ pub record IsSame (movie other : MovieRecord) : Type 0 where
 pub record HasScales (movie : MovieRecord) : Type 0 where
   pub whole : 0 < movie.scale
   pub tracks : AllByRecursion (λ track. 0 < track.scale) movie.tracks
+
+-- a movie is the same as itself, where each scale is at least one tick a second, and movies that are the same are equal
+pub record SamenessIsEquality : Type 0 where
+  pub same : (movie : MovieRecord) → HasScales movie → IsSame movie movie
+  pub equal : (movie other : MovieRecord) → IsSame movie other → movie ≡ other

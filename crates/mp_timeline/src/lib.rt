@@ -6,9 +6,7 @@ mod movie;
 mod plain;
 mod segment;
 
-pub use law::{
-    broken_files_are_seen, examples_are_read, later_files_are_undefined, sameness_is_equality,
-};
+pub use law::sameness_is_equality;
 pub use movie::{EntryBytes, MovieHead, PlainMovie, PlainSample, PlainTrack, TrackHead};
 pub use segment::Segment;
 

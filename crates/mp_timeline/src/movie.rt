@@ -1,4 +1,5 @@
-// The movie as plain values.
+//! The movie as plain values.
+
 use crate::Segment;
 use std::marker::Model;
 

@@ -1,4 +1,5 @@
-// The heads of a movie and a track whose source says nothing of them.
+//! The heads of a movie and a track whose source says nothing of them.
+
 ghost use Rattle.std.specs.Prelude.{◌≡◌, IfOk};
 ghost use Rattle.mp_timeline.specs.Plain.{plain_movie_head, plain_track_head};
 

@@ -1,4 +1,4 @@
-// One segment of an edit list.
+//! One segment of an edit list.
 
 /// A segment of an edit list (ISO/IEC 14496-12, 8.6.6).
 ///

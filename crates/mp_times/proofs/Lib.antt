@@ -1,7 +1,6 @@
 pub mod EntriesFollow
-pub mod Bits
-pub mod RunsAreLongest
-pub mod WholeTables
+pub mod RunsAreWalked
+pub mod SyncsAreWalked
 pub mod LeftOut
 pub mod MarksFromNumbers
 pub mod WrittenRows

@@ -8,7 +8,7 @@ use Rattle.std.proofs.lemmas.List.{map-append, length-append, length-replicate}
 use Rattle.mp_ports.specs.declared.code.Code.{Code}
 use Rattle.mp_ports.specs.declared.code.Code.TheVariants.{SyncOrder}
 use Rattle.mp_ports.specs.declared.fault.Bad.{Bad}
-use Rattle.mp_ports.specs.Answer.{bad_at, placed, unless}
+use Rattle.mp_ports.specs.Checks.{bad_at, placed, unless}
 use Rattle.mp_boxes.specs.Number.{u32_at}
 use Rattle.mp_boxes.specs.FullBox.{row_count, rows_of, table_fault}
 use Rattle.mp_times.specs.Sync.{is_rising, are_samples, mark, marks, numbers_of, order_fault, stss_of}
@@ -18,11 +18,11 @@ use Rattle.mp_times.proofs.EntriesFollow.{first_number, rows_from, rows_from-nex
 unfoldable pub numbers_from : ℕ → List ℕ → ℕ → List ℕ
 numbers_from rows body i = map (λ row. u32_at row 0) (rows_from 4 rows i body)
 
-pub numbers_from-next : (rows : ℕ) (body : List ℕ) (i : ℕ) → i < rows → numbers_from rows body i ≡ u32_at body (8 + 4 * i) ∷ numbers_from rows body (i + 1)
+numbers_from-next : (rows : ℕ) (body : List ℕ) (i : ℕ) → i < rows → numbers_from rows body i ≡ u32_at body (8 + 4 * i) ∷ numbers_from rows body (i + 1)
 unfolding numbers_from
 numbers_from-next rows body i lt = ap (map (λ row. u32_at row 0)) (rows_from-next 4 rows i body lt) ∙ rw (first_number body (8 + 4 * i) 4 (omega arith)) refl
 
-pub numbers_from-none : (rows : ℕ) (body : List ℕ) (i : ℕ) → rows ≤ i → numbers_from rows body i ≡ []
+numbers_from-none : (rows : ℕ) (body : List ℕ) (i : ℕ) → rows ≤ i → numbers_from rows body i ≡ []
 unfolding numbers_from
 numbers_from-none rows body i le = rw (rows_from-none 4 rows i body le) refl
 
@@ -47,11 +47,11 @@ pub rise-next : (low most number : ℕ) (numbers : List ℕ) → low < number �
 unfolding rise
 rise-next low most number numbers above within = rw (lt-ltb low number above, le-leb number most within) refl
 
-pub rise-low : (low most number : ℕ) (numbers : List ℕ) → number ≤ low → rise low most (number ∷ numbers) ≡ false
+rise-low : (low most number : ℕ) (numbers : List ℕ) → number ≤ low → rise low most (number ∷ numbers) ≡ false
 unfolding rise
 rise-low low most number numbers le = rw (le-ltb low number le) refl
 
-pub rise-high : (low most number : ℕ) (numbers : List ℕ) → most < number → rise low most (number ∷ numbers) ≡ false
+rise-high : (low most number : ℕ) (numbers : List ℕ) → most < number → rise low most (number ∷ numbers) ≡ false
 unfolding rise
 rise-high low most number numbers lt = by (ltb low number)
   where
@@ -105,11 +105,11 @@ unfoldable pub gaps : ℕ → ℕ → List ℕ → List ℤ
 gaps low most [] = replicate (most - low) (pos 0)
 gaps low most (number ∷ numbers) = replicate (number - 1 - low) (pos 0) ++ (pos 1 ∷ gaps number most numbers)
 
-pub gaps-none : (low most : ℕ) → gaps low most [] ≡ replicate (most - low) (pos 0)
+gaps-none : (low most : ℕ) → gaps low most [] ≡ replicate (most - low) (pos 0)
 unfolding gaps
 gaps-none low most = refl
 
-pub gaps-next : (items all : List ℤ) (low most number : ℕ) (numbers : List ℕ) → items ++ gaps low most (number ∷ numbers) ≡ all
+gaps-next : (items all : List ℤ) (low most number : ℕ) (numbers : List ℕ) → items ++ gaps low most (number ∷ numbers) ≡ all
     → ((items ++ replicate (number - 1 - low) (pos 0)) ++ pos 1 ∷ []) ++ gaps number most numbers ≡ all
 unfolding gaps
 gaps-next items all low most number numbers e =
@@ -163,7 +163,7 @@ gaps-marks low most (number ∷ numbers) le e =
     ∙ ap (λ (ys : List ℤ). replicate (number - 1 - low) (pos 0) ++ ys) (ap (λ (x : ℤ). x ∷ map m (range_with_len (number + 1) (most - number))) here ∙ ap (λ (ys : List ℤ). pos 1 ∷ ys) rest)))
     )
 
-pub marks_read : (most : ℕ) (numbers : List ℕ) → rise 0 most numbers ≡ true → gaps 0 most numbers ≡ marks most numbers
+marks_read : (most : ℕ) (numbers : List ℕ) → rise 0 most numbers ≡ true → gaps 0 most numbers ≡ marks most numbers
 marks_read most numbers e = gaps-marks 0 most numbers (omega arith) e ∙ ap (λ (n : ℕ). map (mark numbers) (range_with_len 1 n)) (omega arith)
 
 -- ---- one number after another

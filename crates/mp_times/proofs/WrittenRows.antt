@@ -1,81 +1,29 @@
 -- What is read of a table is what was written into it.
-use Rattle.std.proofs.Common.{◌≡◌, ℕ, suc, ◌+◌, ◌-◌, ◌*◌, ◌^◌, ◌<◌, ◌≤◌, Bool, true, false, cond, List, [], ◌∷◌, ◌++◌, length, replicate, map, ℤ, pos, None, Ok, inl, inr, refl, sym, ap, ◌∙◌, arith, rules}
+use Rattle.std.proofs.Common.{◌≡◌, ℕ, suc, ◌-◌, ◌^◌, ◌<◌, ◌≤◌, Bool, true, false, cond, List, [], ◌∷◌, ◌++◌, length, replicate, map, ℤ, pos, None, Ok, inl, inr, refl, sym, ap, ◌∙◌, arith, rules}
 use Rattle.std.specs.Prelude.{negsuc, FitsSigned, All, not}
 use Rattle.std.specs.List.{flat_map, list_all, AllByRecursion}
-use Rattle.std.specs.Int.{w32, to_be_bytes, cast_unsigned, cast_signed, FitsUnsigned}
+use Rattle.std.specs.Int.{w32, cast_unsigned, cast_signed, FitsUnsigned}
 use Rattle.std.specs.Ordering.{int_eq}
-use Rattle.std.proofs.lemmas.Bool.{and_parts, le-ltb, le-leb, leb-true, false≢true}
+use Rattle.std.proofs.lemmas.Bool.{and_parts, le-leb, leb-true, false≢true}
 use Rattle.std.proofs.lemmas.Bool.Decides.{Decides-int_eq}
-use Rattle.std.proofs.lemmas.List.{length-append, take_at, drop_at}
-use Rattle.std.proofs.lemmas.List.Concat.{flat_map-append}
+use Rattle.std.proofs.lemmas.List.{length-map}
 use Rattle.std.proofs.lemmas.Nat.{from_be_bytes-to_be_bytes_4}
 use Rattle.std.proofs.lemmas.Int.{ints, to_z-of_z}
 use Rattle.std.proofs.Math.Facts.{Fits-of_z}
 use Rattle.mp_boxes.specs.Number.{u32_at}
-use Rattle.mp_boxes.specs.Field.{body_bytes, field_bytes}
-use Rattle.mp_boxes.specs.FullBox.{version, row_count, rows_of, table_rows, table_fault}
+use Rattle.mp_boxes.specs.Field.{body_bytes}
+use Rattle.mp_boxes.specs.FullBox.{version, table_rows, table_fault}
+use Rattle.mp_boxes.specs.Table.{HasWidth, TablesAreRead}
 use Rattle.mp_times.specs.Times.{offset, per_sample, stts_of, ctts_of}
-use Rattle.mp_times.specs.Stretch.{Stretch, items_of, count_of, in_front, stretches}
+use Rattle.mp_columns.specs.Stretch.{Stretch, items_of, count_of, in_front}
+use Rattle.mp_columns.specs.Runs.{runs}
 use Rattle.mp_times.specs.Written.{FitOffsets, are_signed, is_unsigned, run_row, runs_body}
-
--- ---- rows that stand one after another
-
-pub rows_of-joined : {A : Type 0} (row : A → List ℕ) (width : ℕ) → ((item : A) → length (row item) ≡ width) → (items : List A) → rows_of (length items) width (flat_map row items) ≡ map row items
-unfolding rows_of
-rows_of-joined row width each [] = refl
-rows_of-joined row width each (item ∷ items) =
-    let first = take_at (row item) (flat_map row items) width (each item) in
-    let others = drop_at (row item) (flat_map row items) width (each item) in
-    rw (first, others, rows_of-joined row width each items) refl
-
-pub length-rows : {A : Type 0} (row : A → List ℕ) (width : ℕ) → ((item : A) → length (row item) ≡ width) → (items : List A) → length (flat_map row items) ≡ width * length items
-length-rows row width each [] = omega arith
-length-rows row width each (item ∷ items) = omega (arith, length-append (row item) (flat_map row items), each item, length-rows row width each items)
-
-pub flat_map-flat_map : {A B C : Type 0} (f : B → List C) (g : A → List B) (xs : List A) → flat_map f (flat_map g xs) ≡ flat_map (λ x. flat_map f (g x)) xs
-flat_map-flat_map f g [] = refl
-flat_map-flat_map f g (x ∷ xs) = flat_map-append f (g x) (flat_map g xs) ∙ ap (λ (ys : List _). flat_map f (g x) ++ ys) (flat_map-flat_map f g xs)
-
--- a table as it is written
-abbrev pub written : {A : Type 0} → Bool → (A → List ℕ) → List A → List ℕ
-written signed row items = to_be_bytes w32 ((cond signed (2 ^ 24) 0) + 0) ++ (to_be_bytes w32 (length items) ++ flat_map row items)
-
-pub count-written : {A : Type 0} (signed : Bool) (row : A → List ℕ) (items : List A) → length items < 2 ^ 32 → row_count (written signed row items) ≡ length items
-unfolding u32_at
-count-written signed row items fits = from_be_bytes-to_be_bytes_4 (length items) fits
-
-pub version-written : {A : Type 0} (signed : Bool) (row : A → List ℕ) (items : List A) → version (written signed row items) ≡ cond signed 1 0
-unfolding u32_at
-version-written true row items = refl
-version-written false row items = refl
-
--- a table that is written has no fault, and its rows are read
-pub record IsRead {A : Type 0} (signed : Bool) (newest width : ℕ) (row : A → List ℕ) (items : List A) : Type 0 where
-  pub no_fault : table_fault newest width (written signed row items) ≡ None
-  pub rows : table_rows width (written signed row items) ≡ map row items
-
-pub table-read : {A : Type 0} (signed : Bool) (newest width : ℕ) (row : A → List ℕ) → ((item : A) → length (row item) ≡ width) → (items : List A) → length items < 2 ^ 32 → cond signed 1 0 ≤ newest → IsRead signed newest width row items
-unfolding table_fault
-table-read signed newest width row each items fits old =
-    let body = written signed row items in
-    let long = length-rows row width each items in
-    let count = count-written signed row items fits in
-    let is_old : version body ≤ newest = let v = version-written signed row items in omega (arith, v, old) in
-    let whole : 8 + width * row_count body ≤ length body = omega (arith, long, ap (λ (n : ℕ). width * n) count) in
-    record {
-      no_fault = rw (le-ltb (length body) 4 (omega (arith, whole)), le-ltb newest (version body) is_old, le-ltb (length body) 8 (omega (arith, whole)), le-ltb (length body) (8 + width * row_count body) whole) refl;
-      rows = ap (λ (n : ℕ). rows_of n width (flat_map row items)) count ∙ rows_of-joined row width each items;
-    }
 
 -- ---- runs
 
 -- the bytes of a run
 unfoldable pub run_text : Stretch ℤ → List ℕ
 run_text run = body_bytes (run_row run)
-
-pub run_text-len : (run : Stretch ℤ) → length (run_text run) ≡ 8
-unfolding run_text
-run_text-len run = refl
 
 count_read : (run : Stretch ℤ) → count_of run < 2 ^ 32 → u32_at (run_text run) 0 ≡ count_of run
 unfolding run_text u32_at
@@ -107,9 +55,9 @@ within-in_front value most x (run ∷ runs) kept h = by (int_eq x run.first)
     by true = (record { count = let c = h.0.count in omega arith; first = kept }, within_more value most runs h.1)
     by false = (record { count = omega arith; first = kept }, within_more value most (run ∷ runs) h)
 
-within-stretches : (value : ℕ → ℤ) (xs : List ℤ) → AllByRecursion (IsKept value) xs → AllByRecursion (IsWithin value (length xs)) (stretches int_eq xs)
-within-stretches value [] kept = tt
-within-stretches value (x ∷ xs) kept = within-in_front value (length xs) x (stretches int_eq xs) kept.0 (within-stretches value xs kept.1)
+within-runs : (value : ℕ → ℤ) (xs : List ℤ) → AllByRecursion (IsKept value) xs → AllByRecursion (IsWithin value (length xs)) (runs xs)
+within-runs value [] kept = tt
+within-runs value (x ∷ xs) kept = within-in_front value (length xs) x (runs xs) kept.0 (within-runs value xs kept.1)
 
 -- so many times the first
 abbrev copies : Stretch ℤ → List ℤ
@@ -124,9 +72,9 @@ copies-in_front x (run ∷ runs) = by (int_eq x run.first) refl
     by true e = let same : x ≡ run.first = search (rules, Decides-int_eq x run.first) in ap (λ (y : ℤ). x ∷ (replicate (count_of run) y ++ flat_map copies runs)) same
     by false e = refl
 
-copies-stretches : (xs : List ℤ) → flat_map copies (stretches int_eq xs) ≡ xs
-copies-stretches [] = refl
-copies-stretches (x ∷ xs) = copies-in_front x (stretches int_eq xs) ∙ ap (λ (ys : List ℤ). x ∷ ys) (copies-stretches xs)
+copies-runs : (xs : List ℤ) → flat_map copies (runs xs) ≡ xs
+copies-runs [] = refl
+copies-runs (x ∷ xs) = copies-in_front x (runs xs) ∙ ap (λ (ys : List ℤ). x ∷ ys) (copies-runs xs)
 
 unfolded_runs : (value : ℕ → ℤ) (most : ℕ) (runs : List (Stretch ℤ)) → most < 2 ^ 32 → AllByRecursion (IsWithin value most) runs → per_sample value (map run_text runs) ≡ flat_map copies runs
 unfolded_runs value most [] fits h = refl
@@ -142,14 +90,19 @@ length-in_front x (run ∷ runs) = by (int_eq x run.first)
     by true = omega arith
     by false = omega arith
 
-length-stretches : (xs : List ℤ) → length (stretches int_eq xs) ≤ length xs
-length-stretches [] = omega arith
-length-stretches (x ∷ xs) = omega (arith, length-in_front x (stretches int_eq xs), length-stretches xs)
+length-runs : (xs : List ℤ) → length (runs xs) ≤ length xs
+length-runs [] = omega arith
+length-runs (x ∷ xs) = omega (arith, length-in_front x (runs xs), length-runs xs)
 
-pub runs_body-written : (signed : Bool) (xs : List ℤ) → runs_body signed xs ≡ written signed run_text (stretches int_eq xs)
-unfolding run_text runs_body
-runs_body-written signed xs =
-    ap (λ (rows : List ℕ). to_be_bytes w32 ((cond signed (2 ^ 24) 0) + 0) ++ (to_be_bytes w32 (length (stretches int_eq xs)) ++ rows)) (flat_map-flat_map field_bytes run_row (stretches int_eq xs))
+-- the rows of runs
+rows_are_texts : (found : List (Stretch ℤ)) → map body_bytes (map run_row found) ≡ map run_text found
+unfolding run_text
+rows_are_texts [] = refl
+rows_are_texts (run ∷ found) = ap (λ (texts : List (List ℕ)). run_text run ∷ texts) (rows_are_texts found)
+
+pub eight_each : (found : List (Stretch ℤ)) → AllByRecursion (HasWidth 8) (map run_row found)
+eight_each [] = tt
+eight_each (run ∷ found) = (refl, eight_each found)
 
 -- the values that are read are those that were written
 pub record AreRead (signed : Bool) (newest : ℕ) (value : ℕ → ℤ) (xs : List ℤ) : Type 0 where
@@ -157,16 +110,16 @@ pub record AreRead (signed : Bool) (newest : ℕ) (value : ℕ → ℤ) (xs : Li
   pub versioned : version (runs_body signed xs) ≡ cond signed 1 0
   pub values : per_sample value (table_rows 8 (runs_body signed xs)) ≡ xs
 
-pub values-read : (signed : Bool) (newest : ℕ) (value : ℕ → ℤ) (xs : List ℤ) → length xs < 2 ^ 32 → cond signed 1 0 ≤ newest → AllByRecursion (IsKept value) xs → AreRead signed newest value xs
-values-read signed newest value xs few old kept =
-    let runs = stretches int_eq xs in
-    let few_runs : length runs < 2 ^ 32 = omega (arith, length-stretches xs) in
-    let r = table-read signed newest 8 run_text run_text-len runs few_runs old in
-    let is = runs_body-written signed xs in
+values-read : TablesAreRead → (signed : Bool) (newest : ℕ) (value : ℕ → ℤ) (xs : List ℤ) → length xs < 2 ^ 32 → cond signed 1 0 ≤ newest → AllByRecursion (IsKept value) xs → AreRead signed newest value xs
+unfolding runs_body
+values-read law signed newest value xs few old kept =
+    let rows = map run_row (runs xs) in
+    let few_rows : length rows < 2 ^ 32 = omega (arith, length-runs xs, length-map (runs xs) run_row, few) in
+    let r = law.table newest 8 signed rows (eight_each (runs xs)) few_rows old in
     record {
-      no_fault = ap (table_fault newest 8) is ∙ r.no_fault;
-      versioned = ap version is ∙ version-written signed run_text runs;
-      values = ap (λ (body : List ℕ). per_sample value (table_rows 8 body)) is ∙ (ap (per_sample value) r.rows ∙ (unfolded_runs value (length xs) runs few (within-stretches value xs kept) ∙ copies-stretches xs));
+      no_fault = r.fault;
+      versioned = r.version_is;
+      values = ap (per_sample value) (r.rows_are ∙ rows_are_texts (runs xs)) ∙ (unfolded_runs value (length xs) (runs xs) few (within-runs value xs kept) ∙ copies-runs xs);
     }
 
 -- ---- values that 32 bits keep
@@ -201,9 +154,9 @@ all_tests (x ∷ xs) all = rw (test_of x (all 0 (pos 0) (omega arith))) (all_tes
 
 -- ---- the tables
 
-pub durations_read : (xs : List ℤ) → length xs < 2 ^ 32 → All (FitsUnsigned w32) xs → stts_of (runs_body false xs) ≡ Ok xs
-durations_read xs few all =
-    let r = values-read false 0 pos xs few (omega arith) (each_item unsigned_kept xs all) in
+pub durations_read : TablesAreRead → (xs : List ℤ) → length xs < 2 ^ 32 → All (FitsUnsigned w32) xs → stts_of (runs_body false xs) ≡ Ok xs
+durations_read law xs few all =
+    let r = values-read law false 0 pos xs few (omega arith) (each_item unsigned_kept xs all) in
     rw r.no_fault (ap (λ (ys : List ℤ). Ok ys) r.values)
 
 offsets_as : (signed : Bool) (value : ℕ → ℤ) (xs : List ℤ) → offset (cond signed 1 0) ≡ value → AreRead signed 1 value xs → ctts_of (runs_body signed xs) ≡ Ok xs
@@ -211,10 +164,10 @@ offsets_as signed value xs is r =
     let rows = table_rows 8 (runs_body signed xs) in
     rw r.no_fault (ap (λ (ys : List ℤ). Ok ys) (ap (λ (v : ℕ). per_sample (offset v) rows) r.versioned ∙ (ap (λ (f : ℕ → ℤ). per_sample f rows) is ∙ r.values)))
 
-pub offsets_read : (xs : List ℤ) → length xs < 2 ^ 32 → FitOffsets xs → ctts_of (runs_body (are_signed xs) xs) ≡ Ok xs
-offsets_read xs few fits = by (list_all is_unsigned xs) refl fits
+pub offsets_read : TablesAreRead → (xs : List ℤ) → length xs < 2 ^ 32 → FitOffsets xs → ctts_of (runs_body (are_signed xs) xs) ≡ Ok xs
+offsets_read law xs few fits = by (list_all is_unsigned xs) refl fits
   where
     by : (b : Bool) → list_all is_unsigned xs ≡ b → FitOffsets xs → ctts_of (runs_body (not b) xs) ≡ Ok xs
-    by true e h = offsets_as false pos xs refl (values-read false 1 pos xs few (omega arith) (all_by_test xs e))
+    by true e h = offsets_as false pos xs refl (values-read law false 1 pos xs few (omega arith) (all_by_test xs e))
     by false e (inl all) = absurd (false≢true (sym e ∙ all_tests xs all))
-    by false e (inr all) = offsets_as true (cast_signed w32) xs refl (values-read true 1 (cast_signed w32) xs few (omega arith) (each_item signed_kept xs all))
+    by false e (inr all) = offsets_as true (cast_signed w32) xs refl (values-read law true 1 (cast_signed w32) xs few (omega arith) (each_item signed_kept xs all))

@@ -1,4 +1,4 @@
 pub mod Times
 pub mod Sync
-pub mod Stretch
 pub mod Written
+pub mod Law

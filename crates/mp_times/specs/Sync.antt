@@ -4,7 +4,7 @@ use Rattle.std.specs.List.{list_all, list_any, range_with_len}
 use Rattle.std.specs.Ordering.{int_eq}
 use Rattle.mp_ports.specs.declared.code.Code.{Code}
 use Rattle.mp_ports.specs.declared.code.Code.TheVariants.{SyncOrder}
-use Rattle.mp_ports.specs.Answer.{first_code, first_some, unless}
+use Rattle.mp_ports.specs.Checks.{first_code, first_some, unless}
 use Rattle.mp_boxes.specs.Number.{u32_at}
 use Rattle.mp_boxes.specs.FullBox.{table_rows, table_fault}
 

@@ -1,12 +1,12 @@
 -- The durations and the composition offsets of samples, one item for each sample, and the times that they give (ISO/IEC
 -- 14496-12, 8.6.1). What is read is the body of a box.
-use Rattle.std.specs.Prelude.{ℕ, ℤ, pos, ◌+ℤ◌, Bool, true, false, List, take, replicate, slice_index_or, sum, Result, ◌==◌, if◌then◌else◌}
+use Rattle.std.specs.Prelude.{ℕ, ℤ, pos, ◌+ℤ◌, Bool, true, false, List, take, drop, replicate, slice_index_or, sum, Result, ◌==◌, if◌then◌else◌}
 use Rattle.std.specs.List.{flat_map, sum_by}
 use Rattle.std.specs.Int.{w32, cast_signed}
 use Rattle.mp_ports.specs.declared.code.Code.{Code}
-use Rattle.mp_ports.specs.Answer.{unless}
+use Rattle.mp_ports.specs.Checks.{unless}
 use Rattle.mp_boxes.specs.Number.{u32_at}
-use Rattle.mp_boxes.specs.FullBox.{version, table_rows, table_fault}
+use Rattle.mp_boxes.specs.FullBox.{first_row, rows_of, version, table_rows, table_fault}
 
 -- the length of a row: a number of samples, and the value of each of them
 abbrev pub run_len : ℕ
@@ -15,6 +15,10 @@ run_len = 8
 -- the value of each sample, in order
 abbrev pub per_sample : {A : Type 0} → (ℕ → A) → List (List ℕ) → List A
 per_sample value rows = flat_map (λ row. replicate (u32_at row 0) (value (u32_at row 4))) rows
+
+-- so many rows of a body
+abbrev pub first_rows : ℕ → List ℕ → List (List ℕ)
+first_rows count body = rows_of count run_len (drop first_row body)
 
 -- how many samples the rows speak of
 abbrev pub sample_count : List (List ℕ) → ℕ

@@ -1,10 +1,11 @@
-// Sync samples: their numbers, in order.
+//! Sync samples: their numbers, in order.
+
 ghost use Rattle.std.specs.Prelude.{◌≤◌};
-ghost use Rattle.mp_ports.specs.Answer.{Gives, placed};
+ghost use Rattle.mp_ports.specs.Checks.{placed};
+ghost use Rattle.mp_ports.specs.Gives.{Gives, refusal};
 ghost use Rattle.mp_columns.specs.declared.columns.TheConstants.{MOST_ITEMS};
 ghost use Rattle.mp_times.specs.Sync.{stss_of};
 
-use crate::copies::push_copies;
 use mp_boxes::{FIRST_ROW, row_count, u32_in};
 use mp_columns::Column;
 use mp_ports::{Bad, Code, Fail};
@@ -24,7 +25,7 @@ pub const NUMBER_LEN: usize = 4;
 /// one isn't in 1 to the number of samples.
 pub fn read_stss<C: Column>(alloc: Global, body: &[u8], base: u64, samples: u32) -> Result<C, Fail>
     requires { samples ≤ MOST_ITEMS }
-    ensures { Gives (λ column. C.items column) result (placed base (stss_of samples body.now)) }
+    ensures { Gives refusal (λ column. C.items column) result (placed base (stss_of samples body.now)) }
 {
     let rows = row_count(body, STSS_VERSION, NUMBER_LEN, base)?;
     let mut marks = C::new(alloc);
@@ -34,10 +35,10 @@ pub fn read_stss<C: Column>(alloc: Global, body: &[u8], base: u64, samples: u32)
         if number <= marked || number > samples {
             return Err(Bad::at(Code::SyncOrder, base).into());
         }
-        push_copies(&mut marks, 0, number - 1 - marked)?;
+        marks.push_copies(0, number - 1 - marked)?;
         marks.push(1)?;
     }
     let marked = marks.len();
-    push_copies(&mut marks, 0, samples - marked)?;
+    marks.push_copies(0, samples - marked)?;
     Ok(marks)
 }

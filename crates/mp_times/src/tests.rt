@@ -1,10 +1,15 @@
-// Each call at a concrete column. The answers were computed by hand from ISO/IEC 14496-12, 8.6.
+//! Each call at a concrete column. The answers were computed by hand from ISO/IEC 14496-12, 8.6.
+
 ghost use Rattle.std.specs.Prelude.{◌≤◌, All, FitsSigned, IfOk, IsTrue, length};
 ghost use Rattle.std.specs.Int.{w32, FitsUnsigned};
 ghost use Rattle.mp_times.specs.Times.{unfolded};
 ghost use Rattle.mp_times.specs.Written.{IsMark};
 
-use crate::{put_ctts, put_stss, put_stts, read_ctts, read_stss, read_stts, unfolded};
+use crate::{
+    ctts_len, push_ctts, push_stss, push_stts, put_ctts, put_stss, put_stts, read_ctts, read_stss,
+    read_stts, stss_len, stts_len, unfolded,
+};
+use mp_boxes::reserve;
 use mp_columns::{Col, Column, MOST_ITEMS};
 use mp_ports::{Bad, Code, Fail as Refusal, NoMemory};
 use std::alloc::Global;
@@ -161,6 +166,41 @@ fn put<C: Column>(
     }
 }
 
+// The same by its length, and what is pushed into that room.
+fn push<C: Column>(
+    rt: &impl Abort,
+    table: Table,
+    column: &C,
+    out: &mut Vec<u8>,
+) -> Result<(), NoMemory> {
+    let len = match table {
+        Table::Stts => stts_len(column),
+        Table::Ctts => ctts_len(column),
+        Table::Stss(_) => stss_len(column),
+    };
+    assert!(rt; len <= 1024);
+    reserve(out, len as u32)?;
+    match table {
+        Table::Stts => {
+            assert!(rt; are_unsigned(column));
+            push_stts(column, out);
+        }
+        Table::Ctts => {
+            if are_unsigned(column) {
+                push_ctts(column, out);
+            } else {
+                assert!(rt; are_signed(column));
+                push_ctts(column, out);
+            }
+        }
+        Table::Stss(_) => {
+            assert!(rt; are_mark(column));
+            push_stss(column, out);
+        }
+    }
+    Ok(())
+}
+
 fn run_put<C: Column>(
     rt: &impl Abort,
     alloc: Global,
@@ -178,6 +218,10 @@ fn run_put<C: Column>(
         assert_eq!(rt; Some(byte), wanted.get(i), "row {row} byte {i}");
     }
     assert_eq!(rt; out.first(), Some(&7), "row {row}");
+    let mut pushed = Vec::new(alloc);
+    pushed.push(7)?;
+    push(rt, table, &column, &mut pushed)?;
+    assert_eq!(rt; pushed, out, "row {row}");
     Ok(())
 }
 

@@ -1,11 +1,12 @@
-// Durations and composition offsets: rows of a number of samples and the value of each of them.
-ghost use Rattle.std.specs.Prelude.{◌≡◌, ◌+◌, ◌*◌, ◌≤◌, length, drop, IfOk, true, false};
-ghost use Rattle.mp_ports.specs.Answer.{Gives, placed};
-ghost use Rattle.mp_columns.specs.declared.columns.TheConstants.{MOST_ITEMS};
-ghost use Rattle.mp_boxes.specs.FullBox.{first_row, rows_of};
-ghost use Rattle.mp_times.specs.Times.{ctts_of, newest_version, offset, per_sample, run_len, sample_count, stts_of, unfolded};
+//! Durations and composition offsets: rows of a number of samples and the value of each of them.
 
-use crate::copies::push_copies;
+ghost use Rattle.std.specs.Prelude.{◌≡◌, ◌+◌, ◌*◌, ◌≤◌, length, IfOk, true, false};
+ghost use Rattle.mp_ports.specs.Checks.{placed};
+ghost use Rattle.mp_ports.specs.Gives.{Gives, refusal};
+ghost use Rattle.mp_columns.specs.declared.columns.TheConstants.{MOST_ITEMS};
+ghost use Rattle.mp_boxes.specs.FullBox.{first_row};
+ghost use Rattle.mp_times.specs.Times.{ctts_of, first_rows, newest_version, offset, per_sample, run_len, sample_count, stts_of, unfolded};
+
 use mp_boxes::{FIRST_ROW, row_count, u32_in, version};
 use mp_columns::Column;
 use mp_ports::{Bad, Fail, NoMemory};
@@ -41,7 +42,7 @@ fn newest_version(ctts: bool) -> u32
 
 fn count_samples(body: &[u8], rows: u32) -> u64
     requires { first_row + run_len * rows ≤ length body.now }
-    ensures { result ≡ sample_count (rows_of rows run_len (drop first_row body.now)) }
+    ensures { result ≡ sample_count (first_rows rows body.now) }
 {
     let mut samples = 0;
     for i in 0..rows as usize {
@@ -57,7 +58,7 @@ fn count_samples(body: &[u8], rows: u32) -> u64
 /// `TableLength` where it is shorter than its rows.
 pub fn read_stts<C: Column>(alloc: Global, body: &[u8], base: u64) -> Result<C, Fail>
     requires { IfOk (unfolded false body.now) (λ samples. samples ≤ MOST_ITEMS) }
-    ensures { Gives (λ column. C.items column) result (placed base (stts_of body.now)) }
+    ensures { Gives refusal (λ column. C.items column) result (placed base (stts_of body.now)) }
 {
     let rows = row_count(body, STTS_VERSION, RUN_LEN, base)?;
     Ok(read_runs(alloc, body, rows, STTS_VERSION)?)
@@ -70,7 +71,7 @@ pub fn read_stts<C: Column>(alloc: Global, body: &[u8], base: u64) -> Result<C, 
 /// `TableLength` where it is shorter than its rows.
 pub fn read_ctts<C: Column>(alloc: Global, body: &[u8], base: u64) -> Result<C, Fail>
     requires { IfOk (unfolded true body.now) (λ samples. samples ≤ MOST_ITEMS) }
-    ensures { Gives (λ column. C.items column) result (placed base (ctts_of body.now)) }
+    ensures { Gives refusal (λ column. C.items column) result (placed base (ctts_of body.now)) }
 {
     let rows = row_count(body, CTTS_VERSION, RUN_LEN, base)?;
     Ok(read_runs(alloc, body, rows, version(body))?)
@@ -79,14 +80,14 @@ pub fn read_ctts<C: Column>(alloc: Global, body: &[u8], base: u64) -> Result<C, 
 /// The value of each sample, by so many rows of a table of that version.
 fn read_runs<C: Column>(alloc: Global, body: &[u8], rows: u32, version: u32) -> Result<C, NoMemory>
     requires room { first_row + run_len * rows ≤ length body.now }
-    requires few { sample_count (rows_of rows run_len (drop first_row body.now)) ≤ MOST_ITEMS }
-    ensures { IfOk result (λ column. C.items column ≡ per_sample (offset version) (rows_of rows run_len (drop first_row body.now))) }
+    requires few { sample_count (first_rows rows body.now) ≤ MOST_ITEMS }
+    ensures { IfOk result (λ column. C.items column ≡ per_sample (offset version) (first_rows rows body.now)) }
 {
     let mut column = C::new(alloc);
     for i in 0..rows as usize {
         let at = FIRST_ROW + RUN_LEN * i;
         let value = offset(version, u32_in(body, at + VALUE_PLACE));
-        push_copies(&mut column, value, u32_in(body, at))?;
+        column.push_copies(value, u32_in(body, at))?;
     }
     Ok(column)
 }

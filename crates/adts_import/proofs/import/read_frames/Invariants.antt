@@ -1,5 +1,5 @@
 use Rattle.std.proofs.Common.{◌≡◌, ◌-◌, ◌≤◌, length, drop}
-use Rattle.adts_import.specs.Stream.{samples_of, frames_from}
+use Rattle.adts_import.specs.Stream.{most_frames, samples_of, frames_from}
 use Rattle.adts_import.proofs.Frames.{behind}
 use Rattle.adts_import.proofs.import.read_frames.Given as goal
 
@@ -8,7 +8,7 @@ abbrev pub invariant-loop-at : goal.invariant-loop-at
 invariant-loop-at l = record {
   number : length l.samples.items ≤ l.at;
   inside : l.at ≤ length l.bytes;
-  few : length l.samples.items ≤ 8388608;
+  few : length l.samples.items ≤ most_frames;
   rest : behind l.samples.items (frames_from (length l.bytes - length l.samples.items) l.bytes (length l.samples.items) l.at (drop l.at l.bytes)) ≡ samples_of l.bytes;
 }
 

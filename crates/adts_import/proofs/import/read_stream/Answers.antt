@@ -17,4 +17,4 @@ returns-clause-single c =
     let samples = plain_of c.args.bytes.now c.in_ok-samples.samples.items bytes some c.in_ok-samples.ensures in
     let entry = c.in_ok-entry.ensures in
     rw c.in_ok-movie.ensures
-    (sound_single c.in-Ok.first.configuration c.in_ok-samples.samples.items c.in-Ok.ensures.bounds.configuration (rw entry.written at entry.well_formed) (rw entry.written at entry.bytes) (rw entry.written at entry.short) samples)
+    (sound_single c.plain_heads_fit.ensures.movie c.plain_heads_fit.ensures.sound c.in-Ok.first.configuration c.in_ok-samples.samples.items c.in-Ok.ensures.bounds.configuration (rw entry.written at entry.well_formed) (rw entry.written at entry.bytes) (rw entry.written at entry.short) samples)

@@ -19,8 +19,8 @@ loop-child-preserved c =
     let e : next_head c.args.base c.args.bytes.now c.loop-child.at ≡ Ok (Some c.in-Some.child) = sym c.next_box.ensures.head ∙ (c.in_ok-child.was ∙ ap (λ o. Ok o) c.in-Some.is) in
     record { inside = omega (arith, (rw (c.in_ok-child.was, c.in-Some.is) at c.next_box.ensures.inside).ends); walked = walked_on c.args.base c.loop-child.at c.args.bytes.now c.in-Some.child c.type_inv.bytes i.inside e i.walked }
 
-pub returns-clause-read : goal.returns-clause-read
-returns-clause-read c =
+pub returns-clause-boxes : goal.returns-clause-boxes
+returns-clause-boxes c =
     let e : next_head c.args.base c.args.bytes.now c.loop-child.at ≡ Ok None = sym c.next_box.ensures.head ∙ (c.in_ok-child.was ∙ ap (λ o. Ok o) c.in_default.is) in
     let w = walked_all c.args.base c.loop-child.at c.args.bytes.now e c.loop-child.invariant.walked in
     all_read c.args.base c.args.bytes.now w.0 w.1

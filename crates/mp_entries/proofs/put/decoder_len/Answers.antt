@@ -6,4 +6,4 @@ use Rattle.mp_entries.proofs.put.decoder_len.Goals as goal
 pub returns-clause-len : goal.returns-clause-len
 returns-clause-len c =
     let info = c.deref.ensures.value ∙ ap (λ (e : EsdsRecord). e.info) c.entry.view_is in
-    omega (arith, c.specific_len.ensures.len, ap (λ (t : List ℕ). length (specific_info t)) info, length-decoder_body c.args.entry.now)
+    omega (arith, c.fields_len.ensures, c.specific_len.ensures.len, ap (λ (t : List ℕ). length (specific_info t)) info, length-decoder_body c.args.entry.now)

@@ -5,4 +5,12 @@ use Rattle.mp_headers.proofs.TrackHeaders.{tkhd-read}
 use Rattle.mp_headers.proofs.law.headers_are_read.Goals as goal
 
 pub returns : goal.returns
-returns c = record { movie = mvhd-read; track = tkhd-read; media = mdhd-read; handler = hdlr-read; name = λ handler name is. name-read handler name is.four }
+returns c =
+    let fields = c.fields_are_read.ensures in
+    record {
+      movie = record { back = mvhd-read fields };
+      track = record { back = tkhd-read fields };
+      media = record { back = mdhd-read fields };
+      handler = λ name. record { back = hdlr-read name };
+      name = λ handler name is. name-read handler name is.four;
+    }

@@ -1,20 +1,28 @@
-use Rattle.mp_layout.specs.File.{file_bytes}
-use Rattle.mp_layout.proofs.FileIsCut.{BoxesAreRead}
-use Rattle.mp_layout.proofs.TracksAreRead.{HeadersAreRead}
-use Rattle.mp_layout.proofs.FilePresentsMovie.{file_presents_movie, has_scales}
+use Rattle.std.proofs.Common.{ℕ}
+use Rattle.mp_timeline.specs.Movie.{MovieRecord}
+use Rattle.mp_movie.specs.Limits.{Fits}
+use Rattle.mp_movie.specs.WellFormed.{IsWellFormed}
+use Rattle.mp_layout.specs.File.{HasShortMoov, file_bytes}
+use Rattle.mp_layout.proofs.EveryMovie.{file-presents}
+use Rattle.mp_layout.proofs.FileIsRead.{IsFileRead}
+use Rattle.mp_layout.proofs.Laws.{Laws}
 use Rattle.mp_layout.proofs.law.file_presents_movie.Goals as goal
 
-pub returns-clause-exact : goal.returns-clause-exact
-returns-clause-exact c =
-    let boxes : BoxesAreRead = record { alone = c.parts_are_read.ensures.alone; found = c.boxes_are_read.ensures.found; in_front = c.parts_are_read.ensures.in_front } in
-    let headers : HeadersAreRead = record {
-      movie = c.headers_are_read.ensures.movie;
-      track = c.headers_are_read.ensures.track;
-      media = c.headers_are_read.ensures.media;
-      handler = c.headers_are_read.ensures.handler;
-      name = c.headers_are_read.ensures.name;
+pub returns : goal.returns
+returns c =
+    let laws : Laws = record {
+      boxes = record { cuts = c.boxes_are_read.ensures; parts = c.parts_are_read.ensures; heads = c.heads_are_read.ensures; lengths = c.boxes_have_lengths.ensures };
+      headers = c.headers_are_read.ensures;
+      references = c.references_are_read.ensures;
+      entries = c.descriptions_are_read.ensures;
+      times = c.tables_are_read.ensures;
+      edits = c.edits_are_read.ensures;
     } in
-    file_presents_movie boxes headers c.entries_are_kept.ensures c.tables_are_read.ensures.durations
-
-pub returns-clause-same : goal.returns-clause-same
-returns-clause-same c = λ movie single. c.sameness_is_equality.ensures.presented (file_bytes movie 0) movie (has_scales movie single) (returns-clause-exact c movie single)
+    let read : (movie : MovieRecord) (millis : ℕ) → IsWellFormed movie → Fits movie → HasShortMoov movie millis → IsFileRead (file_bytes movie millis) movie =
+    λ movie millis formed fits short. file-presents laws c.places_are_read.ensures c.places_change_no_length.ensures movie millis formed fits short in
+    record {
+      sound = λ movie millis formed fits short. (read movie millis formed fits short).sound;
+      exact = λ movie millis formed fits short. (read movie millis formed fits short).read;
+      same = λ movie millis formed fits short.
+          c.same_movie_is_presented.ensures.presented (file_bytes movie millis) movie (c.same_movie_is_presented.ensures.scales movie formed) (read movie millis formed fits short).read;
+    }

@@ -1,14 +1,19 @@
-use Rattle.std.proofs.Common.{◌+◌, ◌^◌, [], ◌∷◌, ap, lit≤, ◌∙◌}
+use Rattle.std.proofs.Common.{[], ◌∷◌, codes, sym, ap, ◌∙◌}
+use Rattle.mp_boxes.specs.Field.{container}
+use Rattle.mp_headers.specs.MediaInformation.{media_header}
 use Rattle.mp_timeline.specs.Movie.{TrackHeadRecord, TrackRecord}
-use Rattle.mp_layout.proofs.Buffers.{opened_none, opened_part, appended_within}
+use Rattle.mp_layout.specs.Moov.{dinf}
+use Rattle.mp_layout.specs.SingleTrack.{one_chunk}
+use Rattle.mp_layout.specs.Tables.{stbl}
+use Rattle.mp_layout.proofs.Lens.{same-box, same-len}
 use Rattle.mp_layout.proofs.moov.push_minf.Goals as goal
 
 pub returns : goal.returns
 returns c =
+    let track = c.args.track.now in
     let head = c.head.view_is ∙ ap (λ (t : TrackRecord). t.head) c.track.view_is in
-    let none = opened_none _ _ _ _ _ c.in_ok-at.ensures.open in
-    let media = opened_part _ _ _ _ _ _ _ [] _ none c.in_ok-push_media_header.ensures in
-    let «data» = opened_part _ _ _ _ _ _ _ (_ ∷ []) _ media c.in_ok-push_dinf.ensures in
-    let tables = opened_part _ _ _ _ _ _ _ (_ ∷ (_ ∷ [])) _ «data» c.in_ok-push_stbl.ensures in
-    let boxed = appended_within _ _ _ (2 ^ 29 + 2 ^ 10) _ (c.close_box.ensures _ _ _ _ tables) (lit≤ tt) in
-    rw (ap (λ (h : TrackHeadRecord). h.handler) head) at boxed
+    let tables = stbl track (one_chunk track c.args.place) in
+    let same = ap (λ (h : TrackHeadRecord). container (codes "minf") (media_header h.handler ∷ dinf ∷ tables ∷ [])) head in
+    let len = same-len _ _ _ (sym same) (c.minf_len.ensures c.args.place) in
+    same-box _ _ _ _ same
+    (λ rest all p. c.push_stbl.ensures rest all (c.push_dinf.ensures _ all (c.push_media_header.ensures _ all (c.begin_box.ensures.boxes (media_header c.head.inside.handler ∷ dinf ∷ tables ∷ []) len rest all p))))

@@ -1,24 +1,17 @@
-use Rattle.std.proofs.Common.{◌+◌, ◌^◌, [], ◌∷◌, ◌++◌, codes, lit≤, subst, sym}
-use Rattle.mp_boxes.specs.Field.{Part, box_bytes, optional}
-use Rattle.mp_layout.specs.Buffer.{IsAppended}
-use Rattle.mp_layout.specs.Moov.{track_header, edts, mdia}
-use Rattle.mp_layout.specs.Single.{one_chunk}
-use Rattle.mp_layout.proofs.Buffers.{opened_none, opened_part, opened_parts, appended_within}
-use Rattle.mp_layout.proofs.OneTrack.{no_user_data}
+use Rattle.std.proofs.Common.{[], ◌∷◌, codes, sym, ap, ◌∙◌}
+use Rattle.mp_boxes.specs.Field.{container}
+use Rattle.mp_headers.specs.declared.track_header.Tkhd.{Tkhd}
+use Rattle.mp_headers.specs.TrackHeader.{tkhd}
+use Rattle.mp_layout.specs.Moov.{mdia}
+use Rattle.mp_layout.specs.SingleTrack.{one_chunk}
+use Rattle.mp_layout.proofs.Lens.{same-box, same-len}
+use Rattle.mp_layout.proofs.OneTrack.{plain_trak}
 use Rattle.mp_layout.proofs.moov.push_trak.Goals as goal
-
-pub push_edts-requires : goal.push_edts-requires
-push_edts-requires c = rw c.requires.edits tt
 
 pub returns : goal.returns
 returns c =
-    let none = opened_none _ _ _ _ _ c.in_ok-at.ensures.open in
-    let header = opened_part _ _ _ _ _ _ _ [] _ none c.in_ok-push_tkhd.ensures in
-    let edits = opened_parts _ _ _ _ _ _ _ (_ ∷ []) _ header c.in_ok-push_edts.ensures in
-    let media = opened_part _ _ _ _ _ _ _ ((_ ∷ []) ++ optional (edts c.args.track.now.edits)) _ edits c.in_ok-push_mdia.ensures in
-    let boxed = appended_within _ _ _ (2 ^ 30 + 2 ^ 22) _ (c.close_box.ensures _ _ _ _ media) (lit≤ tt) in
-    let track = rw c.track_header.ensures.head at boxed in
-    let head = c.requires.head in
-    let boxes = track_header c.args.movie_scale c.args.track.now ∷ optional (edts c.args.track.now.edits) ++ (mdia c.args.track.now (one_chunk c.args.track.now c.args.place) ∷ []) in
-    let part = no_user_data (codes "trak") boxes c.args.track.now.head.udta head.udta in
-    subst (λ (p : Part). IsAppended c.args.out.now.items c.close_box.new.out.items (2 ^ 30 + 2 ^ 22) (box_bytes p)) (sym part) track
+    let track = c.args.track.now in
+    let media = mdia track (one_chunk track c.args.place) in
+    let same = ap (λ (t : Tkhd). container (codes "trak") (tkhd t ∷ media ∷ [])) c.track_header.ensures ∙ sym (plain_trak c.args.movie_scale track (one_chunk track c.args.place) c.requires.plain) in
+    let len = same-len _ _ _ (sym same) (c.trak_len-len.ensures c.args.place) in
+    same-box _ _ _ _ same (λ rest all p. c.push_mdia.ensures rest all (c.push_tkhd.ensures _ all (c.begin_box.ensures.boxes (tkhd c.track_header.result ∷ media ∷ []) len rest all p)))

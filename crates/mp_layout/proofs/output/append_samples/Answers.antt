@@ -14,7 +14,7 @@ returns-in_err-held-clause-failed g c =
     let at = c.loop-sample.sample-index in
     let bytes = c.deref.ensures.value ∙ ap (λ (s : SampleRecord). s.bytes) c.sample.view_is in
     let whole = split_at (λ (s : SampleRecord). s.bytes) samples at c.sample-item.result c.loop-sample-test.true c.sample-item.is in
-    let fails = gathers_fails _ _ _ _ _ _ (joined (drop (at + 1) samples)) c.loop-sample.invariant.gathered (rw bytes at c.in_err-held.ensures.failed) in
+    let fails = gathers_fails c.appends_follow.ensures _ _ _ _ _ _ (joined (drop (at + 1) samples)) c.loop-sample.invariant.gathered (rw bytes at c.in_err-held.ensures.failed) in
     let p = err_from_is_err_and c.from_residual.result c.from_residual.ensures.1 in
     rw p.1 (subst (λ (b : List ℕ). FailsToAppend (g.F.Folder.state c.args.folder.now) (g.F.Folder.state c.gather.new.folder) b) (sym whole) fails)
 
@@ -24,7 +24,7 @@ loop-sample-preserved g c =
     let at = c.loop-sample.sample-index in
     let bytes = c.deref.ensures.value ∙ ap (λ (s : SampleRecord). s.bytes) c.sample.view_is in
     let more = one_more (λ (s : SampleRecord). s.bytes) samples at c.sample-item.result c.loop-sample-test.true c.sample-item.is in
-    let gathered = gathers_more _ _ _ _ _ _ _ c.loop-sample.invariant.gathered (rw bytes at c.in_ok-held.ensures.gathered) in
+    let gathered = gathers_more c.appends_follow.ensures _ _ _ _ _ _ _ c.loop-sample.invariant.gathered (rw bytes at c.in_ok-held.ensures.gathered) in
     record {
       inside = c.in_ok-held.ensures.inside;
       gathered = subst (λ (b : List ℕ). Gathers (g.F.Folder.state c.args.folder.now) (g.F.Folder.state c.gather.new.folder) b (take c.in_ok-held.held c.gather.new.window)) (sym more) gathered;
@@ -33,4 +33,4 @@ loop-sample-preserved g c =
 pub returns-clause-failed : goal.returns-clause-failed
 returns-clause-failed g c =
     let all = ap joined (take_all c.loop-sample.sample-index c.args.samples.now c.loop-sample-test.false) in
-    on_err_weaker c.flush.result (gathered_fails _ _ _ _ _ (rw all at c.loop-sample.invariant.gathered)) c.flush.ensures.failed
+    on_err_weaker c.flush.result (gathered_fails c.appends_follow.ensures _ _ _ _ _ (rw all at c.loop-sample.invariant.gathered)) c.flush.ensures.failed

@@ -1,7 +1,7 @@
 use Rattle.std.proofs.Common.{take}
 use Rattle.std.specs.List.{flat_map}
 use Rattle.mp_ports.specs.Folder.{Appends}
-use Rattle.mp_layout.specs.Single.{track_bytes}
+use Rattle.mp_layout.specs.SingleTrack.{track_bytes}
 use Rattle.mp_layout.proofs.output.append_tracks.Given as goal
 
 -- the tracks so far were appended

@@ -1,9 +1,8 @@
-use Rattle.std.proofs.Common.{◌≡◌, ◌+◌, ◌*◌, ◌++◌, [], ◌∷◌, List, length, rules, arith, ap, sym, subst, length-append, ◌∙◌}
+use Rattle.std.proofs.Common.{◌≡◌, ◌+◌, [], ◌∷◌, arith, length-append, ◌∙◌}
 use Rattle.std.proofs.lemmas.List.Sums.{sum_by-append}
 use Rattle.std.specs.List.{sum_by}
 use Rattle.mp_timeline.specs.Movie.{SampleRecord}
-use Rattle.mp_timeline.specs.Single.{ArePlain}
-use Rattle.mp_layout.proofs.SoundMovie.{plain_more}
+use Rattle.mp_layout.proofs.PlainSamples.{plain_more}
 use Rattle.mp_layout.proofs.tests.samples_of.Goals as goal
 
 pub loop-frame-preserved : goal.loop-frame-preserved

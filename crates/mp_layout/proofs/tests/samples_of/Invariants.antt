@@ -1,6 +1,6 @@
 use Rattle.std.proofs.Common.{◌≡◌, ◌*◌, length}
 use Rattle.std.specs.List.{sum_by}
-use Rattle.mp_timeline.specs.Single.{ArePlain}
+use Rattle.mp_movie.specs.Single.{ArePlain}
 use Rattle.mp_layout.proofs.tests.samples_of.Given as goal
 
 -- the samples so far are plain, and end where the next one is decoded

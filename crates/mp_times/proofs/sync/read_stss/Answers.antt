@@ -19,8 +19,8 @@ returns-then-number-marked g c =
 
 pub loop-i-preserved : goal.loop-i-preserved
 loop-i-preserved g c =
-    sample_is_marked c.loop-i.invariant c.loop-i-test.true c.len-marked.ensures.count c.u32_in-number.ensures c.if-number-marked.false c.if-number-samples.false c.in_ok-push_copies.ensures c.in_ok-push.ensures.ok
+    sample_is_marked c.loop-i.invariant c.loop-i-test.true c.len-marked.ensures.count c.u32_in-number.ensures c.if-number-marked.false c.if-number-samples.false c.in_ok-push_copies.ensures.ok c.in_ok-push.ensures.ok
 
 pub returns : goal.returns
 returns g c =
-    all_are_marked _ _ _ _ _ _ _ _ _ _ c.row_count.ensures.answer c.in_ok-rows.was c.in_ok-rows.ensures.count c.loop-i.invariant c.loop-i-test.false c.len-marked-2.ensures.count c.in_ok-push_copies-2.ensures
+    all_are_marked _ _ _ _ _ _ _ _ _ _ c.row_count.ensures.answer c.in_ok-rows.was c.in_ok-rows.ensures.count c.loop-i.invariant c.loop-i-test.false c.len-marked-2.ensures.count c.in_ok-push_copies-2.ensures.ok

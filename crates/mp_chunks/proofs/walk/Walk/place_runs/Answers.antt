@@ -1,7 +1,7 @@
 use Rattle.std.proofs.Common.{ℕ, List, length, map, sym, ap, subst, ◌∙◌, arith, Some}
 use Rattle.std.specs.List.{range_with_len}
 use Rattle.mp_ports.specs.declared.fault.Bad.{Bad}
-use Rattle.mp_ports.specs.Answer.{first_some, fault_at}
+use Rattle.mp_ports.specs.Checks.{first_some, fault_at}
 use Rattle.mp_chunks.specs.declared.chunks.ChunkRun.{ChunkRun}
 use Rattle.mp_chunks.specs.Chunks.{run_fault, runs_fault, stsc_of}
 use Rattle.mp_chunks.specs.Answer.{runs}

@@ -1,0 +1,16 @@
+use Rattle.std.proofs.Common.{rules, ap, ◌∙◌, ◌≡◌, ◌<◌, ℤ, pos, ◌+ℤ◌, get_or, length, w64, to_z, of_z, FitsSigned}
+use Rattle.mp_columns.proofs.Mapping.{comes_unchanged, one_more, sum_is}
+use Rattle.mp_columns.proofs.walks.shift_each.Goals as goal
+
+pub loop-item-preserved : goal.loop-item-preserved
+loop-item-preserved c =
+    let old = c.args.items.now in
+    let now = c.loop-item.items in
+    let i = c.loop-item.item-index in
+    let f = λ (x : ℤ). x +ℤ to_z w64 (of_z w64 c.args.by) in
+    let lt : i < length old = c.loop-item-test.true in
+    let item = get_or now i (pos 0) in
+    let same : item ≡ get_or old i (pos 0) = comes_unchanged f old i (pos 0) lt now c.loop-item.invariant in
+    let fits : FitsSigned w64 item = search rules in
+    let sum_fits : FitsSigned w64 (item +ℤ c.args.by) = rw same (c.requires i (pos 0) lt) in
+    one_more f old i (pos 0) lt now _ c.loop-item.invariant (sum_is item c.args.by fits c.ranges.by sum_fits ∙ ap f same)

@@ -1,7 +1,0 @@
-use Rattle.std.proofs.Common.{◌≡◌, take}
-use Rattle.mp_layout.specs.Tables.{composition_offsets}
-use Rattle.mp_layout.proofs.times.offsets_of.Given as goal
-
--- the column has those of the samples so far
-abbrev pub invariant-loop-sample : goal.invariant-loop-sample
-invariant-loop-sample l = l.column ≡ composition_offsets (take l.sample-index l.samples)

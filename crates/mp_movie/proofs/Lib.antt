@@ -1,0 +1,5 @@
+mod ExampleFile
+mod OtherFile
+mod Examples
+mod Laws
+mod PlainHeads

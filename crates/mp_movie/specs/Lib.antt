@@ -1,0 +1,14 @@
+pub mod Durations
+pub mod Heads
+pub mod Columns
+pub mod WellFormed
+pub mod Limits
+pub mod Readings
+pub mod Children
+pub mod TrackBoxes
+pub mod Entries
+pub mod SampleTable
+pub mod Edits
+pub mod Tracks
+pub mod Present
+pub mod Single
