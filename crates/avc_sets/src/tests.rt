@@ -1,5 +1,6 @@
-//! Parameter sets of streams that real encoders made, and laid out by hand. What they give was read off them by a script
-//! that follows ITU-T H.264, 7.3.2.1.1, 7.3.2.2 and E.1.1; sizes, profiles and levels are those that `ffprobe` tells.
+//! Parameter sets of streams that real encoders made, and laid out by hand. What they give was read
+//! off them by a script that follows ITU-T H.264, 7.3.2.1.1, 7.3.2.2 and E.1.1; sizes, profiles and
+//! levels are those that `ffprobe` tells.
 use super::*;
 use mp_ports::Code;
 use std::test;
@@ -105,13 +106,22 @@ fn sequence_sets_that_are_refused(rt: HostRuntime) {
     }
 }
 
+/// Cut behind each bit, where ones fill the byte that is cut, or one more: a one for the last flag of
+/// the timing is enough.
 #[test]
-fn sequence_sets_are_read_to_their_last_element(rt: HostRuntime) {
-    // 145 bits stand behind the first byte: with 20 bytes it is whole
-    for end in 2..20 {
-        assert!(&rt; said(&FILM[..end]) == Err(Code::SetSyntax));
+fn sequence_sets_are_read_to_their_last_bit(rt: HostRuntime) -> Result<(), Fail> {
+    // from behind the profile on; 145 bits stand behind the first byte
+    for bits in 8..152_usize {
+        let last = 1 + bits / 8;
+        let mut cut = Vec::from_slice(rt.alloc(), &FILM[..last + 1])?;
+        cut[last] |= 0xFF >> (bits % 8);
+        if bits < 144 {
+            assert!(&rt; said(&cut) == Err(Code::SetSyntax));
+        } else {
+            assert!(&rt; said(&cut) == said(&FILM));
+        }
     }
-    assert!(&rt; said(&FILM[..20]).is_ok());
+    Ok(())
 }
 
 #[test]

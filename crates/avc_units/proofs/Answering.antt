@@ -1,11 +1,11 @@
 -- From the first byte and the end of a unit to the answer.
 use Rattle.std.proofs.Common.{◌≡◌, ℕ, ◌+◌, ◌-◌, ◌<◌, ◌≤◌, inl, inr, List, [], ◌∷◌, ◌++◌, length, take, drop, Option, Some, None, IfSome, Result, Ok, Err, sym, ap, subst, ◌∙◌, arith}
-use Rattle.mp_ports.specs.Answer.{bad_at}
+use Rattle.mp_ports.specs.Checks.{bad_at}
 use Rattle.mp_ports.specs.declared.code.Code.TheVariants.{UnitFraming, UnitLimit}
 use Rattle.avc_units.specs.declared.reader.UnitSpan.{UnitSpan}
 use Rattle.avc_units.specs.declared.reader.UnitFail.{UnitFail}
 use Rattle.avc_units.specs.declared.reader.UnitFail.TheVariants.{Bad as Refused, ReadFault}
-use Rattle.avc_units.specs.declared.window.First.{First}
+use Rattle.avc_units.specs.declared.piece.First.{First}
 use Rattle.avc_units.specs.Units.{Placed, HasUnits}
 use Rattle.avc_units.specs.Reader.{IsNextUnit}
 use Rattle.avc_units.specs.Reading.{zeros_of}
@@ -16,43 +16,43 @@ use Rattle.avc_units.proofs.Cutting.{start-is, found-some, step-is, next-bytes, 
 use Rattle.avc_units.proofs.Faults.{fault-is, fault-first}
 
 -- what a start code leads to
-step_at : (b : List ℕ) (at : ℕ) (first : First) (window : List ℕ) → IsFirst b at (Some first) window → first.byte ≡ 1 → 2 ≤ first.place - at
+step_at : (b : List ℕ) (at : ℕ) (first : First) → IsFirst b at (Some first) → first.byte ≡ 1 → 2 ≤ first.place - at
     → step (drop at b) ≡ found (first.place - at + 1) (unit_len (drop (first.place + 1) b))
-step_at b at first window is one two =
+step_at b at first is one two =
     let z = zeros_of (drop at b) in
     let p_is : first.place ≡ at + z = is.0 in
     let here : drop z (drop at b) ≡ 1 ∷ drop (first.place + 1) b = drop_more at z b ∙ ap (λ (k : ℕ). drop k b) (sym p_is) ∙ is.1 ∙ ap (λ (k : ℕ). k ∷ drop (first.place + 1) b) one in
     rw (here, start-is z (first.place - at - 2) (drop (first.place + 1) b) (omega arith)) (ap (λ (k : ℕ). found k (unit_len (drop (first.place + 1) b))) (omega arith))
 
-pub gives_empty : (bytes : Option (List ℕ)) (at end : ℕ) (first : First) (window : List ℕ) → IfSome bytes (λ b. IsFirst b at (Some first) window) → at ≤ first.place → first.byte ≡ 1 → 2 ≤ first.place - at
+pub gives_empty : (bytes : Option (List ℕ)) (at end : ℕ) (first : First) → IfSome bytes (λ b. IsFirst b at (Some first)) → at ≤ first.place → first.byte ≡ 1 → 2 ≤ first.place - at
     → IfSome bytes (λ b. end ≡ first.place + 1 + unit_len (drop (first.place + 1) b)) → end ≡ first.place + 1 → IfSome bytes (λ b. Gives b at (Err (Refused (bad_at UnitFraming (first.place + 1)))))
-gives_empty None at end first window is le one two e none = tt
-gives_empty (Some b) at end first window is le one two e none =
+gives_empty None at end first is le one two e none = tt
+gives_empty (Some b) at end first is le one two e none =
     let n : unit_len (drop (first.place + 1) b) ≡ 0 = omega arith in
-    inl (first.place - at + 1, step_at b at first window is one two ∙ ap (found (first.place - at + 1)) n, ap (bad_at UnitFraming) (omega arith))
+    inl (first.place - at + 1, step_at b at first is one two ∙ ap (found (first.place - at + 1)) n, ap (bad_at UnitFraming) (omega arith))
 
-one_at : (b : List ℕ) (at end : ℕ) (first : First) (window : List ℕ) → IsFirst b at (Some first) window → first.byte ≡ 1 → 2 ≤ first.place - at → end ≡ first.place + 1 + unit_len (drop (first.place + 1) b) → first.place + 1 < end
+one_at : (b : List ℕ) (at end : ℕ) (first : First) → IsFirst b at (Some first) → first.byte ≡ 1 → 2 ≤ first.place - at → end ≡ first.place + 1 + unit_len (drop (first.place + 1) b) → first.place + 1 < end
     → step (drop at b) ≡ OneUnit (first.place - at + 1) (end - (first.place + 1))
-one_at b at end first window is one two e some =
+one_at b at end first is one two e some =
     let n : unit_len (drop (first.place + 1) b) ≡ end - (first.place + 1) = omega arith in
-    step_at b at first window is one two ∙ ap (found (first.place - at + 1)) n ∙ found-some (first.place - at + 1) (end - (first.place + 1)) (omega arith)
+    step_at b at first is one two ∙ ap (found (first.place - at + 1)) n ∙ found-some (first.place - at + 1) (end - (first.place + 1)) (omega arith)
 
-pub gives_long : (bytes : Option (List ℕ)) (at end : ℕ) (first : First) (window : List ℕ) → IfSome bytes (λ b. IsFirst b at (Some first) window) → at ≤ first.place → first.byte ≡ 1 → 2 ≤ first.place - at
+pub gives_long : (bytes : Option (List ℕ)) (at end : ℕ) (first : First) → IfSome bytes (λ b. IsFirst b at (Some first)) → at ≤ first.place → first.byte ≡ 1 → 2 ≤ first.place - at
     → IfSome bytes (λ b. end ≡ first.place + 1 + unit_len (drop (first.place + 1) b)) → 16777216 < end - (first.place + 1) → IfSome bytes (λ b. Gives b at (Err (Refused (bad_at UnitLimit (first.place + 1)))))
-gives_long None at end first window is le one two e long = tt
-gives_long (Some b) at end first window is le one two e long =
-    inr (first.place - at + 1, end - (first.place + 1), one_at b at end first window is one two e (omega arith), long, ap (bad_at UnitLimit) (omega arith))
+gives_long None at end first is le one two e long = tt
+gives_long (Some b) at end first is le one two e long =
+    inr (first.place - at + 1, end - (first.place + 1), one_at b at end first is one two e (omega arith), long, ap (bad_at UnitLimit) (omega arith))
 
-pub gives_unit : (bytes : Option (List ℕ)) (at end : ℕ) (first : First) (window : List ℕ) → IfSome bytes (λ b. IsFirst b at (Some first) window) → at ≤ first.place → first.byte ≡ 1 → 2 ≤ first.place - at
+pub gives_unit : (bytes : Option (List ℕ)) (at end : ℕ) (first : First) → IfSome bytes (λ b. IsFirst b at (Some first)) → at ≤ first.place → first.byte ≡ 1 → 2 ≤ first.place - at
     → IfSome bytes (λ b. end ≡ first.place + 1 + unit_len (drop (first.place + 1) b)) → first.place + 1 < end → IfSome bytes (λ b. Gives b at (Ok (Some (record { from = first.place + 1; len = end - (first.place + 1) }))))
-gives_unit None at end first window is le one two e some = tt
-gives_unit (Some b) at end first window is le one two e some = (first.place - at + 1, one_at b at end first window is one two e some, omega arith)
+gives_unit None at end first is le one two e some = tt
+gives_unit (Some b) at end first is le one two e some = (first.place - at + 1, one_at b at end first is one two e some, omega arith)
 
 -- another byte than a start code's is a fault
-pub gives_fault : (bytes : Option (List ℕ)) (at : ℕ) (first : First) (window : List ℕ) → IfSome bytes (λ b. IsFirst b at (Some first) window) → at ≤ first.place → (first.byte ≡ 1 → first.place - at < 2)
+pub gives_fault : (bytes : Option (List ℕ)) (at : ℕ) (first : First) → IfSome bytes (λ b. IsFirst b at (Some first)) → at ≤ first.place → (first.byte ≡ 1 → first.place - at < 2)
     → IfSome bytes (λ b. Gives b at (Err (Refused (bad_at UnitFraming first.place))))
-gives_fault None at first window is le other = tt
-gives_fault (Some b) at first window is le other =
+gives_fault None at first is le other = tt
+gives_fault (Some b) at first is le other =
     let z = zeros_of (drop at b) in
     let here : drop z (drop at b) ≡ first.byte ∷ drop (first.place + 1) b = drop_more at z b ∙ ap (λ (k : ℕ). drop k b) (sym is.0) ∙ is.1 in
     let two : first.byte ≡ 1 → z < 2 = λ e. let h = other e in let p = is.0 in omega arith in

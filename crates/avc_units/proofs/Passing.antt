@@ -73,28 +73,38 @@ zeros_on (Some b) from at n piece le l holds z h =
     let f2 : at + n ≡ from + (at + n - from) = omega arith in
     subst (λ (k : ℕ). zeros_of (drop from b) ≡ (at + n - from) + zeros_of (drop k b)) f2 (omega arith)
 
--- what stands behind an index of the window
+-- what stands behind an index
 behind : (window text : List ℕ) (n k : ℕ) → k ≤ n → take n window ≡ take n text → take (n - k) (drop k window) ≡ take (n - k) (drop k text)
 behind window text n k le e =
     let whole : n ≡ k + (n - k) = omega arith in
     sym (drop-take k (n - k) window) ∙ ap (λ (m : ℕ). drop k (take m window)) (sym whole) ∙ ap (drop k) e ∙ ap (λ (m : ℕ). drop k (take m text)) whole ∙ drop-take k (n - k) text
 
-pub first_found : (bytes : Option (List ℕ)) (from at n z byte : ℕ) (window : List ℕ) → from ≤ at → n ≤ length window → Holds bytes at n window → IfSome bytes (λ b. at + n ≤ length b)
-    → length (take n window) ≡ n → z ≡ zeros_of (take n window) → z < n → byte ≡ get_or window z 0 → HasZeros bytes from (at - from)
-    → IfSome bytes (λ b. IsFirst b from (Some (record { byte = byte; place = at + z; index = z; held = n })) window)
-first_found None from at n z byte window le room holds inside l is few x h = tt
-first_found (Some b) from at n z byte window le room holds inside l is few x h =
-    let o : zeros_of (drop at b) ≡ z = subst (λ (t : List ℕ). zeros_of t ≡ z) (front_of b at n (take n window) holds) (zeros_some (take n window) (drop (at + n) b) (omega arith) ∙ sym is) in
+-- of what is held, what stands behind a place
+pub kept_behind : (bytes : Option (List ℕ)) (place n from : ℕ) (window : List ℕ) → place ≤ from → from ≤ place + n → Holds bytes place n window → Holds bytes from (n - (from - place)) (drop (from - place) window)
+kept_behind None place n from window low high holds = tt
+kept_behind (Some b) place n from window low high holds =
+    behind window (drop place b) n (from - place) (omega arith) holds ∙ ap (take (n - (from - place))) (drop_more place (from - place) b ∙ ap (λ (k : ℕ). drop k b) (omega arith))
+
+pub kept_at : (bytes : Option (List ℕ)) (place n start at : ℕ) (window : List ℕ) → start < n → place + start ≡ at → Holds bytes place n window → IfSome bytes (λ b. take (n - start) (drop start window) ≡ take (n - start) (drop at b))
+kept_at None place n start at window low e holds = tt
+kept_at (Some b) place n start at window low e holds =
+    behind window (drop place b) n start (omega arith) holds ∙ ap (take (n - start)) (drop_more place start b ∙ ap (λ (k : ℕ). drop k b) e)
+
+pub first_found : (bytes : Option (List ℕ)) (from at n z byte : ℕ) (piece : List ℕ) → from ≤ at → length piece ≡ n → IfSome bytes (λ b. piece ≡ take n (drop at b)) → IfSome bytes (λ b. at + n ≤ length b)
+    → z ≡ zeros_of piece → z < n → byte ≡ get_or piece z 0 → HasZeros bytes from (at - from)
+    → IfSome bytes (λ b. IsFirst b from (Some (record { byte = byte; place = at + z })))
+first_found None from at n z byte piece le l holds inside is few x h = tt
+first_found (Some b) from at n z byte piece le l holds inside is few x h =
+    let o : zeros_of (drop at b) ≡ z = subst (λ (t : List ℕ). zeros_of t ≡ z) (front_of b at n piece holds) (zeros_some piece (drop (at + n) b) (omega arith) ∙ sym is) in
     let f : from + (at - from) ≡ at = omega arith in
     let g : zeros_of (drop from b) ≡ (at - from) + zeros_of (drop at b) = subst (λ (k : ℕ). zeros_of (drop from b) ≡ (at - from) + zeros_of (drop k b)) f h in
     let low : at + z < length b = omega arith in
-    let here : get_or b (at + z) 0 ≡ byte = sym (get_or-drop at b z 0) ∙ sym (get_or-take n (drop at b) z 0 few) ∙ ap (λ (t : List ℕ). get_or t z 0) (sym holds) ∙ get_or-take n window z 0 few ∙ sym x in
-    let more : drop (z + 1) (drop at b) ≡ drop (at + z + 1) b = drop_more at (z + 1) b ∙ ap (λ (k : ℕ). drop k b) (omega arith) in
-    (omega arith, rw (add-one, drop-cons b (at + z) 0, here) refl, behind window (drop at b) n (z + 1) (omega arith) holds ∙ ap (take (n - (z + 1))) more)
+    let here : get_or b (at + z) 0 ≡ byte = sym (get_or-drop at b z 0) ∙ sym (get_or-take n (drop at b) z 0 few) ∙ ap (λ (t : List ℕ). get_or t z 0) (sym holds) ∙ sym x in
+    (omega arith, rw (add-one, drop-cons b (at + z) 0, here) refl)
 
-pub first_none : (bytes : Option (List ℕ)) (from at size : ℕ) (window : List ℕ) → from ≤ at → size ≤ at → IfSome bytes (λ b. size ≡ length b) → HasZeros bytes from (at - from) → IfSome bytes (λ b. IsFirst b from None window)
-first_none None from at size window le end told h = tt
-first_none (Some b) from at size window le end told h =
+pub first_none : (bytes : Option (List ℕ)) (from at size : ℕ) → from ≤ at → size ≤ at → IfSome bytes (λ b. size ≡ length b) → HasZeros bytes from (at - from) → IfSome bytes (λ b. IsFirst b from None)
+first_none None from at size le end told h = tt
+first_none (Some b) from at size le end told h =
     let f : from + (at - from) ≡ at = omega arith in
     let g : zeros_of (drop from b) ≡ (at - from) + zeros_of (drop at b) = subst (λ (k : ℕ). zeros_of (drop from b) ≡ (at - from) + zeros_of (drop k b)) f h in
     drop_all (from + zeros_of (drop from b)) b (omega arith)

@@ -1,6 +1,6 @@
 -- What a reader of units answers.
 use Rattle.std.specs.Prelude.{◌≡◌, ◌⊎◌, ℕ, ◌+◌, ◌<◌, ◌≤◌, List, [], ◌∷◌, ◌++◌, length, take, drop, Option, Some, None, Result, Ok, Err}
-use Rattle.mp_ports.specs.Answer.{bad_at}
+use Rattle.mp_ports.specs.Checks.{bad_at}
 use Rattle.mp_ports.specs.Folder.{FolderState, FailsToRead}
 use Rattle.mp_ports.specs.declared.code.Code.TheVariants.{UnitFraming, UnitLimit}
 use Rattle.mp_ports.specs.declared.fault.Bad.{Bad}

@@ -1,8 +1,10 @@
 -- A byte stream read from left to right: the next unit of a text, and what a scan knows of it piece by piece.
-use Rattle.std.specs.Prelude.{◌≡◌, ◌⊎◌, ℕ, zero, suc, ◌+◌, ◌-◌, ◌<◌, ◌≤◌, List, [], ◌∷◌, ◌++◌, drop, take, replicate, if◌then◌else◌, Option, Some, None, IfSome, Result, Ok, Err}
-use Rattle.mp_ports.specs.Answer.{bad_at}
+use Rattle.std.specs.Prelude.{◌≡◌, ◌⊎◌, ℕ, zero, suc, ◌+◌, ◌<◌, ◌≤◌, List, [], ◌∷◌, ◌++◌, drop, take, replicate, if◌then◌else◌, Option, Some, None, IfSome, Result, Ok, Err}
+use Rattle.mp_ports.specs.Checks.{bad_at}
 use Rattle.mp_ports.specs.declared.code.Code.TheVariants.{UnitFraming, UnitLimit}
-use Rattle.avc_units.specs.declared.window.First.{First}
+use Rattle.mp_ports.specs.Folder.{OpenedFile}
+use Rattle.avc_units.specs.declared.piece.First.{First}
+use Rattle.avc_units.specs.declared.piece.Piece.{Piece}
 use Rattle.avc_units.specs.declared.reader.UnitSpan.{UnitSpan}
 use Rattle.avc_units.specs.declared.reader.UnitFail.{UnitFail}
 use Rattle.avc_units.specs.declared.reader.UnitFail.TheVariants.{Bad as Refused, ReadFault}
@@ -49,19 +51,22 @@ Holds bytes from n window = IfSome bytes (λ b. take n window ≡ take n (drop f
 abbrev pub HasZeros : Option (List ℕ) → ℕ → ℕ → Type 0
 HasZeros bytes from z = IfSome bytes (λ b. zeros_of (drop from b) ≡ z + zeros_of (drop (from + z) b))
 
--- the first byte that isn't 0, at its place, and the bytes behind it in the window
-abbrev pub IsFirst : List ℕ → ℕ → Option First → List ℕ → Type 0
-IsFirst b from None window = drop (from + zeros_of (drop from b)) b ≡ []
-IsFirst b from (Some first) window =
-    (first.place ≡ from + zeros_of (drop from b)) × (drop first.place b ≡ first.byte ∷ drop (first.place + 1) b)
-    × (take (first.held - (first.index + 1)) (drop (first.index + 1) window) ≡ take (first.held - (first.index + 1)) (drop (first.place + 1) b))
+-- the first byte that isn't 0, at its place
+abbrev pub IsFirst : List ℕ → ℕ → Option First → Type 0
+IsFirst b from None = drop (from + zeros_of (drop from b)) b ≡ []
+IsFirst b from (Some first) = (first.place ≡ from + zeros_of (drop from b)) × (drop first.place b ≡ first.byte ∷ drop (first.place + 1) b)
 
--- the byte stands in the window, and in the file from that place on
-pub record IsHeld (from size window : ℕ) (first : First) : Type 0 where
+-- what was read of an opened file is what stands in it
+pub record Keeps (file : OpenedFile) (piece : Piece) : Type 0 where
+  pub few : piece.len ≤ 4096
+  pub within : piece.place + piece.len ≤ file.size
+  pub holds : Holds file.bytes piece.place piece.len piece.bytes
+
+-- the byte stands behind that place, and was read
+pub record IsKept (from : ℕ) (piece : Piece) (first : First) : Type 0 where
   pub low : from ≤ first.place
-  pub high : first.place + (first.held - first.index) ≤ size
-  pub inside : first.index < first.held
-  pub room : first.held ≤ window
+  pub behind : piece.place ≤ first.place
+  pub inside : first.place < piece.place + piece.len
 
 -- n bytes of the unit were passed, of which so many zeros were the last
 abbrev pub HasPassed : Option (List ℕ) → ℕ → ℕ → ℕ → Type 0

@@ -31,7 +31,7 @@ impl ElementFail {
 
 impl<'a> Bits<'a> {
     /// An element u(n). `Syntax` where fewer bits are left.
-    #[tactic(auto, using(crate::proofs::Numbers::number_shorter), unfolding(crate::specs::Elements::u, crate::specs::Table::walk))]
+    #[tactic(auto, using(crate::proofs::Walking::walking), unfolding(crate::specs::Elements::u))]
     pub fn read_u(&mut self, n: u32) -> Result<u32, ElementFail>
         requires { n ≤ 32 }
         ensures takes { Takes (walk (u n) self.old) result self.new }
@@ -45,7 +45,7 @@ impl<'a> Bits<'a> {
     }
 
     /// An element u(1): whether it is set. `Syntax` where no bit is left.
-    #[tactic(auto, using(crate::proofs::Walking::walk_bind), unfolding(crate::specs::Elements::flag, crate::specs::Table::walk))]
+    #[tactic(auto, using(crate::proofs::Walking::walking), unfolding(crate::specs::Elements::flag))]
     pub fn read_flag(&mut self) -> Result<bool, ElementFail>
         ensures takes { Takes (walk flag self.old) result self.new }
         ensures shorter { OnOk result (length self.new ≤ length self.old) }
@@ -55,7 +55,7 @@ impl<'a> Bits<'a> {
     }
 
     /// An element ue(v). `Syntax` where no code is there.
-    #[tactic(auto, using(crate::proofs::Numbers::code_shorter), unfolding(crate::specs::Elements::ue, crate::specs::Table::walk))]
+    #[tactic(auto, using(crate::proofs::Walking::walking), unfolding(crate::specs::Elements::ue))]
     pub fn read_ue(&mut self) -> Result<u32, ElementFail>
         ensures takes { Takes (walk ue self.old) result self.new }
         ensures small { IfOk result (λ v. v < 2 ^ 32 - 1) }
@@ -68,7 +68,7 @@ impl<'a> Bits<'a> {
     }
 
     /// An element ue(v) of at most that value. `Syntax` where no such code is there.
-    #[tactic(auto, using(crate::proofs::Walking::walk_bind), unfolding(crate::specs::Elements::ue_upto, crate::specs::Table::walk))]
+    #[tactic(auto, using(crate::proofs::Walking::walking), unfolding(crate::specs::Elements::ue_upto))]
     pub fn read_ue_upto(&mut self, most: u32) -> Result<u32, ElementFail>
         ensures takes { Takes (walk (ue_upto most) self.old) result self.new }
         ensures small { IfOk result (λ v. v ≤ most) }
@@ -82,7 +82,7 @@ impl<'a> Bits<'a> {
     }
 
     /// An element se(v). `Syntax` where no code is there.
-    #[tactic(auto, using(crate::proofs::Walking::walk_bind), unfolding(crate::specs::Elements::se, crate::specs::Table::walk))]
+    #[tactic(auto, using(crate::proofs::Walking::walking), unfolding(crate::specs::Elements::se))]
     pub fn read_se(&mut self) -> Result<i32, ElementFail>
         ensures takes { Takes (walk se self.old) result self.new }
         ensures shorter { OnOk result (length self.new < length self.old) }
@@ -92,7 +92,7 @@ impl<'a> Bits<'a> {
     }
 
     /// An element se(v) from `low` to `high`. `Syntax` where no such code is there.
-    #[tactic(auto, using(crate::proofs::Walking::walk_bind), unfolding(crate::specs::Elements::se_within, crate::specs::Table::walk))]
+    #[tactic(auto, using(crate::proofs::Walking::walking), unfolding(crate::specs::Elements::se_within))]
     pub fn read_se_within(&mut self, low: i32, high: i32) -> Result<i32, ElementFail>
         ensures takes { Takes (walk (se_within low high) self.old) result self.new }
         ensures from_low { IfOk result (λ v. low ≤ℤ v) }

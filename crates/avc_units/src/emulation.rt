@@ -28,7 +28,8 @@ pub fn clean(alloc: Global, unit: &[u8]) -> Result<Vec<u8>, NoMemory>
 // How many zeros stand last behind one more byte, as far as two; none where the byte is removed.
 fn zeros_after(zeros: usize, byte: u8) -> Option<usize>
     requires { zeros ≤ 2 }
-    ensures kept { IfSome result (λ n. (n ≤ 2) × ((rest : List ℕ) → clean_behind zeros (byte ∷ rest) ≡ byte ∷ clean_behind n rest)) }
+    ensures kept { IfSome result (λ n. (n ≤ 2)
+        × ((rest : List ℕ) → clean_behind zeros (byte ∷ rest) ≡ byte ∷ clean_behind n rest)) }
     ensures removed { result ≡ None → (rest : List ℕ) → clean_behind zeros (byte ∷ rest) ≡ clean_behind 0 rest }
 {
     if zeros == 2 && byte == 3 {

@@ -1,14 +1,16 @@
-//! The units of an H.264 byte stream, the bits of a unit, and tables of syntax elements (ITU-T H.264, Annex B, 7.2, 7.3
-//! and 9.1).
+//! The units of an H.264 byte stream, the bits of a unit, and tables of syntax elements (ITU-T
+//! H.264, Annex B, 7.2, 7.3 and 9.1).
 //!
-//! A stream is refused where bytes between units are neither zeros nor a start code, where a unit is empty, and where
-//! one is longer than 16,777,216 bytes. What a table says of bits, or why it says nothing, is up to the crate that writes it.
+//! A stream is refused where bytes between units are neither zeros nor a start code, where a unit is
+//! empty, and where one is longer than 16,777,216 bytes. What a table says of bits, or why it says
+//! nothing, is up to the crate that writes it.
 #![tactic(auto)]
 
 mod bits;
 mod elements;
 mod emulation;
 mod law;
+mod piece;
 mod reader;
 mod search;
 mod window;

@@ -1,12 +1,13 @@
 // One unit after another, through a window.
-ghost use Rattle.std.specs.Prelude.{◌≡◌, ◌<◌, ◌≤◌, List, length, IfSome, IfOk};
-ghost use Rattle.mp_ports.specs.Folder.{FolderState, opened_at};
-ghost use Rattle.mp_ports.specs.Answer.{bad_at};
+ghost use Rattle.std.specs.Prelude.{◌≡◌, ◌+◌, ◌<◌, ◌≤◌, List, length, IfSome, IfOk};
+ghost use Rattle.mp_ports.specs.Folder.{FolderState, OpenedFile, opened_at};
+ghost use Rattle.mp_ports.specs.Checks.{bad_at};
 ghost use Rattle.avc_units.specs.Units.{Placed, HasUnits};
 ghost use Rattle.avc_units.specs.Reader.{IsNextUnit, LiesBehind, OnlyReads, end_after};
-ghost use Rattle.avc_units.specs.Scan.{Gives};
+ghost use Rattle.avc_units.specs.Scan.{Gives, Keeps};
 
-use crate::window::{Source, end_of, first_byte};
+use crate::piece::Piece;
+use crate::window::Source;
 use mp_ports::{Bad, Code, Folder};
 
 // The longest unit that is read, in bytes.
@@ -33,11 +34,12 @@ pub enum UnitFail {
 /// Reads the units of a byte stream one after another (H.264, Annex B).
 ///
 /// It stands behind the first units of its file: behind none at first.
-#[derive(Clone, Copy, Debug, PartialEq, Eq)]
+#[derive(Drop)]
 pub struct UnitReader {
     file: u32,
     size: u64,
     end: u64,
+    piece: Piece,
     ghost inside: { end ≤ size },
 }
 
@@ -47,8 +49,14 @@ impl UnitReader {
         ensures file { result.file ≡ file }
         ensures size { result.size ≡ size }
         ensures front { result.end ≡ 0 }
+        ensures kept { (file : OpenedFile) → Keeps file result.piece }
     {
-        UnitReader { file, size, end: 0 }
+        UnitReader {
+            file,
+            size,
+            end: 0,
+            piece: Piece::new(),
+        }
     }
 
     /// The next unit of the file, and None where there is none; the reader then stands behind it.
@@ -62,6 +70,8 @@ impl UnitReader {
         requires file { self.old.file < length (F.state folder.old).opened }
         requires size { self.old.size ≡ (opened_at (F.state folder.old) self.old.file).size }
         requires window { 16 ≤ length window.old }
+        // What it has read of the file is what stands there.
+        requires kept { Keeps (opened_at (F.state folder.old) self.old.file) self.old.piece }
 
         // Where the folder tells, the answer is what comes next behind the units that the reader stands behind.
         ensures told { IfSome (opened_at (F.state folder.old) self.old.file).bytes
@@ -72,9 +82,14 @@ impl UnitReader {
         ensures end { self.new.end ≡ end_after self.old.end result }
         ensures file { self.new.file ≡ self.old.file }
         ensures size { self.new.size ≡ self.old.size }
+        ensures kept { Keeps (opened_at (F.state folder.new) self.new.file) self.new.piece }
         ensures reads { OnlyReads result (F.state folder.old) (F.state folder.new) }
     {
-        match self.look(folder, window) {
+        let source = Source {
+            file: self.file,
+            size: self.size,
+        };
+        match look(folder, source, self.end, &mut self.piece, window) {
             Ok(Some(span)) => {
                 self.end = span.from + u64::from(span.len);
                 Ok(Some(span))
@@ -83,49 +98,50 @@ impl UnitReader {
             Err(fail) => Err(fail),
         }
     }
+}
 
-    // What comes next, without moving there.
-    fn look<F: Folder>(
-        &self,
-        folder: &mut F,
-        window: &mut [u8],
-    ) -> Result<Option<UnitSpan>, UnitFail>
-        requires file { self.now.file < length (F.state folder.old).opened }
-        requires size { self.now.size ≡ (opened_at (F.state folder.old) self.now.file).size }
-        requires window { 16 ≤ length window.old }
-        ensures gives { IfSome (opened_at (F.state folder.old) self.now.file).bytes (λ b. Gives b self.now.end result) }
-        ensures behind { IfOk result (λ found. IfSome found (λ span. LiesBehind self.now.end self.now.size span)) }
-        ensures reads { OnlyReads result (F.state folder.old) (F.state folder.new) }
-    {
-        let _size = folder.size(self.file);
-        let source = Source {
-            file: self.file,
-            size: self.size,
-        };
-        let first = match first_byte(folder, source, self.end, window) {
-            Ok(Some(first)) => first,
-            Ok(None) => return Ok(None),
-            Err(_) => return Err(UnitFail::ReadFault),
-        };
-        if first.byte != 1 || first.place - self.end < 2 {
-            return Err(refused(Code::UnitFraming, first.place));
-        }
-        let from = first.place + 1;
-        let end = match end_of(folder, source, from, first.index + 1, first.held, window) {
-            Ok(end) => end,
-            Err(_) => return Err(UnitFail::ReadFault),
-        };
-        if end == from {
-            return Err(refused(Code::UnitFraming, from));
-        }
-        if LONGEST_UNIT < end - from {
-            return Err(refused(Code::UnitLimit, from));
-        }
-        Ok(Some(UnitSpan {
-            from,
-            len: (end - from) as u32,
-        }))
+// What comes next from that place on.
+fn look<F: Folder>(
+    folder: &mut F,
+    source: Source,
+    end: u64,
+    piece: &mut Piece,
+    window: &mut [u8],
+) -> Result<Option<UnitSpan>, UnitFail>
+    requires file { source.file < length (F.state folder.old).opened }
+    requires size { source.size ≡ (opened_at (F.state folder.old) source.file).size }
+    requires end { end ≤ source.size }
+    requires kept { Keeps (opened_at (F.state folder.old) source.file) piece.old }
+    requires window { 16 ≤ length window.old }
+    ensures gives { IfSome (opened_at (F.state folder.old) source.file).bytes (λ b. Gives b end result) }
+    ensures behind { IfOk result (λ found. IfSome found (λ span. LiesBehind end source.size span)) }
+    ensures kept { Keeps (opened_at (F.state folder.old) source.file) piece.new }
+    ensures reads { OnlyReads result (F.state folder.old) (F.state folder.new) }
+{
+    let _size = folder.size(source.file);
+    let first = match piece.first_byte(folder, source, end) {
+        Ok(Some(first)) => first,
+        Ok(None) => return Ok(None),
+        Err(_) => return Err(UnitFail::ReadFault),
+    };
+    if first.byte != 1 || first.place - end < 2 {
+        return Err(refused(Code::UnitFraming, first.place));
     }
+    let from = first.place + 1;
+    let behind = match piece.end_of(folder, source, from, window) {
+        Ok(behind) => behind,
+        Err(_) => return Err(UnitFail::ReadFault),
+    };
+    if behind == from {
+        return Err(refused(Code::UnitFraming, from));
+    }
+    if LONGEST_UNIT < behind - from {
+        return Err(refused(Code::UnitLimit, from));
+    }
+    Ok(Some(UnitSpan {
+        from,
+        len: (behind - from) as u32,
+    }))
 }
 
 // The refusal at a place of the file.

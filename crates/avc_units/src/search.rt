@@ -32,7 +32,8 @@ pub(crate) fn scan(zeros: usize, piece: &[u8]) -> Stand
     ensures ended { result.ended ≡ true → (2 ≤ zeros + result.used) × (result.used < length piece.now)
         × ((rest : List ℕ) → left_of zeros (piece.now ++ rest) + 2 ≡ zeros + result.used) }
     ensures more { result.ended ≡ false → (result.used ≡ length piece.now)
-        × ((rest : List ℕ) → left_of zeros (piece.now ++ rest) + result.zeros ≡ zeros + result.used + left_of result.zeros rest) }
+        × ((rest : List ℕ) → left_of zeros (piece.now ++ rest) + result.zeros
+        ≡ zeros + result.used + left_of result.zeros rest) }
 {
     let mut seen = zeros;
     let mut at = 0;
@@ -84,7 +85,8 @@ fn pass_plain(piece: &[u8], from: usize) -> usize
     requires { from < length piece.now }
     ensures low { from ≤ result }
     ensures high { result ≤ length piece.now }
-    ensures plain { (rest : List ℕ) → left_of 0 (drop from piece.now ++ rest) + from ≡ result + left_of 0 (drop result piece.now ++ rest) }
+    ensures plain { (rest : List ℕ) → left_of 0 (drop from piece.now ++ rest) + from
+        ≡ result + left_of 0 (drop result piece.now ++ rest) }
 {
     let mut at = from;
     while at < piece.len() && piece.len() - at > 2 {
@@ -96,13 +98,14 @@ fn pass_plain(piece: &[u8], from: usize) -> usize
     at
 }
 
-// How many bytes behind that place can be passed at once: three where the third is above 1, one where no two zeros stand
-// there.
+// How many bytes behind that place can be passed at once: three where the third is above 1, one where no
+// two zeros stand there.
 #[inline(always)]
 fn plain_at(piece: &[u8], at: usize) -> Option<usize>
     requires { at + 2 < length piece.now }
     ensures { IfSome result (λ n. (0 < n) × (at + n ≤ length piece.now)
-        × ((rest : List ℕ) → left_of 0 (drop at piece.now ++ rest) ≡ n + left_of 0 (drop (at + n) piece.now ++ rest))) }
+        × ((rest : List ℕ) → left_of 0 (drop at piece.now ++ rest)
+        ≡ n + left_of 0 (drop (at + n) piece.now ++ rest))) }
 {
     if piece[at + 2] > 1 {
         return Some(3);

@@ -1,4 +1,5 @@
-//! Streams, units and bits byte by byte, as ITU-T H.264 lays them out (Annex B, 7.3.1, 7.2 and 9.1), and what they give.
+//! Streams, units and bits byte by byte, as ITU-T H.264 lays them out (Annex B, 7.3.1, 7.2 and
+//! 9.1), and what they give.
 
 ghost use Rattle.std.specs.Prelude.{◌≡◌, ◌≤◌, [], IfOk};
 
@@ -7,7 +8,7 @@ use mp_ports::{Bad, Code, Folder, MemFile, MemFolder};
 use std::alloc::Global;
 use std::test::Fail;
 
-/// A window of 4,096 bytes holds each stream of these tests whole.
+/// The length of a large window.
 const LARGE: usize = 4096;
 
 /// The length of the longest unit that is read.
@@ -57,7 +58,7 @@ fn framing(place: u64) -> Option<UnitFail> {
 
 #[test]
 fn streams_are_cut_into_units(rt: HostRuntime) -> Result<(), Fail> {
-    let rows: [(&[u8], &[(u64, u32)], Option<UnitFail>); 19] = [
+    let rows: [(&[u8], &[(u64, u32)], Option<UnitFail>); 16] = [
         // units behind start codes of three and four bytes, in front of zeros
         (b"\0\0\x01\x09\x10\0\0\0\x01\x67", &[(3, 2), (9, 1)], None),
         (
@@ -72,10 +73,6 @@ fn streams_are_cut_into_units(rt: HostRuntime) -> Result<(), Fail> {
         (b"\0\0\x01\x41\0\x41", &[(3, 3)], None),
         (b"\0\0\x01\x41\0\0\x02", &[(3, 4)], None),
         (b"\0\0\x01\x41\0\0\x03", &[(3, 4)], None),
-        // a start code across two windows of 16 bytes
-        (b"\0\0\x01AAAAAAAAAAA\0\0\x01A", &[(3, 11), (17, 1)], None),
-        (b"\0\0\x01AAAAAAAAAAAA\0\0\x01A", &[(3, 12), (18, 1)], None),
-        (b"\0\0\x01AAAAAAAAAAAAA\0\0\x01A", &[(3, 13), (19, 1)], None),
         // no units
         (b"", &[], None),
         (b"\0\0\0", &[], None),
@@ -99,14 +96,33 @@ fn streams_are_cut_into_units(rt: HostRuntime) -> Result<(), Fail> {
 }
 
 #[test]
-fn zeros_go_on_over_windows(rt: HostRuntime) -> Result<(), Fail> {
-    let mut bytes = Vec::from_slice(rt.alloc(), b"\0\0\x01\x41")?;
-    bytes.resize(104, 0)?;
-    bytes.extend_from_slice(b"\x01\x41")?;
-    for window in [16, LARGE] {
-        let (got, behind) = units(rt.alloc(), &bytes, window)?;
-        assert!(rt; got.as_slice() == [(3, 1), (105, 1)].as_slice());
-        assert!(rt; behind == None);
+fn zeros_go_on_over_reads(rt: HostRuntime) -> Result<(), Fail> {
+    for zeros in [100, 4094, 9000_usize] {
+        let mut bytes = Vec::from_slice(rt.alloc(), b"\0\0\x01\x41")?;
+        bytes.resize(4 + zeros, 0)?;
+        bytes.extend_from_slice(b"\x01\x41")?;
+        for window in [16, LARGE] {
+            let (got, behind) = units(rt.alloc(), &bytes, window)?;
+            assert!(rt; got.as_slice() == [(3, 1), (5 + zeros as u64, 1)].as_slice());
+            assert!(rt; behind == None);
+        }
+    }
+    Ok(())
+}
+
+/// A unit that is longer than one read, so that it and the start code behind it end at each place of a
+/// window of 16 bytes.
+#[test]
+fn units_go_on_over_windows(rt: HostRuntime) -> Result<(), Fail> {
+    for len in 4080..4116_u32 {
+        let mut bytes = Vec::from_slice(rt.alloc(), b"\0\0\x01")?;
+        bytes.resize(3 + len as usize, 0x41)?;
+        bytes.extend_from_slice(b"\0\0\x01\x41")?;
+        for window in [16, LARGE] {
+            let (got, behind) = units(rt.alloc(), &bytes, window)?;
+            assert!(rt; got.as_slice() == [(3, len), (6 + u64::from(len), 1)].as_slice());
+            assert!(rt; behind == None);
+        }
     }
     Ok(())
 }
@@ -141,7 +157,9 @@ fn a_unit_of_the_greatest_length_is_read(rt: HostRuntime) -> Result<(), Fail> {
 
 #[test]
 fn a_failed_read_moves_nothing(rt: HostRuntime) -> Result<(), Fail> {
-    let bytes = Vec::from_slice(rt.alloc(), b"\0\0\x01AAAAAAAAAAAAAAAAAAAA\0\0\x01A")?;
+    let mut bytes = Vec::from_slice(rt.alloc(), b"\0\0\x01")?;
+    bytes.resize(5003, 0x41)?;
+    bytes.extend_from_slice(b"\0\0\x01A")?;
     // the second read for the first unit
     let mut folder = folder_of(rt.alloc(), bytes, &[3])?;
     let Ok(file) = folder.open("a") else {
@@ -150,8 +168,8 @@ fn a_failed_read_moves_nothing(rt: HostRuntime) -> Result<(), Fail> {
     let mut window = [0u8; 16];
     let mut reader = UnitReader::new(file, folder.size(file));
     assert!(rt; reader.next(&mut folder, &mut window) == Err(UnitFail::ReadFault));
-    assert!(rt; reader.next(&mut folder, &mut window) == Ok(Some(UnitSpan { from: 3, len: 20 })));
-    assert!(rt; reader.next(&mut folder, &mut window) == Ok(Some(UnitSpan { from: 26, len: 1 })));
+    assert!(rt; reader.next(&mut folder, &mut window) == Ok(Some(UnitSpan { from: 3, len: 5000 })));
+    assert!(rt; reader.next(&mut folder, &mut window) == Ok(Some(UnitSpan { from: 5006, len: 1 })));
     Ok(())
 }
 

@@ -1,12 +1,12 @@
-// A file read through a window, from the end of a unit to the end of the next.
+// Long units: the rest of a unit, read through a window.
 ghost use Rattle.std.specs.Prelude.{◌≡◌, ◌+◌, ◌-◌, ◌<◌, ◌≤◌, length, drop, IfSome, IfOk, OnOk, OnErr};
 ghost use Rattle.mp_ports.specs.Folder.{FolderState, opened_at, FailsToRead};
-ghost use Rattle.avc_units.specs.Scan.{Holds, HasPassed, IsFirst, IsHeld, unit_len};
+ghost use Rattle.avc_units.specs.Scan.{Holds, HasPassed, unit_len};
 
-use crate::search::{scan, zeros_in};
+use crate::search::scan;
 use mp_ports::{Folder, PortFault};
 
-// The first read for a unit; each further one takes twice as many bytes, up to 1 MiB.
+// The first read for the rest of a unit; each further one takes twice as many bytes, up to 1 MiB.
 const FIRST_READ: usize = 4096;
 
 const LONGEST_READ: usize = 1_048_576;
@@ -18,17 +18,8 @@ pub(crate) struct Source {
     pub(crate) size: u64,
 }
 
-// A byte that isn't 0: its place in the file, and its index in the window, of which so many bytes hold the file's.
-#[derive(Clone, Copy)]
-pub(crate) struct First {
-    pub(crate) byte: u8,
-    pub(crate) place: u64,
-    pub(crate) index: usize,
-    pub(crate) held: usize,
-}
-
 // Fills the front of the window with what stands at `from`, at most `most` bytes.
-fn fill<F: Folder>(
+pub(crate) fn fill<F: Folder>(
     folder: &mut F,
     source: Source,
     from: u64,
@@ -59,86 +50,9 @@ fn fill<F: Folder>(
     }
 }
 
-// The first byte from that place on that isn't 0.
-pub(crate) fn first_byte<F: Folder>(
-    folder: &mut F,
-    source: Source,
-    from: u64,
-    window: &mut [u8],
-) -> Result<Option<First>, PortFault>
-    requires file { source.file < length (F.state folder.old).opened }
-    requires size { source.size ≡ (opened_at (F.state folder.old) source.file).size }
-    requires told { IfSome (opened_at (F.state folder.old) source.file).bytes (λ b. source.size ≡ length b) }
-    requires from { from ≤ source.size }
-    requires window { 0 < length window.old }
-    ensures inside { IfOk result (λ found. IfSome found (λ first. IsHeld from source.size (length window.old) first)) }
-    ensures first { IfOk result
-        (λ found. IfSome (opened_at (F.state folder.old) source.file).bytes (λ b. IsFirst b from found window.new)) }
-    ensures same { OnOk result (F.state folder.new ≡ F.state folder.old) }
-    ensures failed { OnErr result (FailsToRead (F.state folder.old) (F.state folder.new)) }
-{
-    let mut at = from;
-    let mut most = FIRST_READ;
-    while at < source.size {
-        let n = match fill(folder, source, at, most, window) {
-            Ok(n) => n,
-            Err(fault) => return Err(fault),
-        };
-        let zeros = zeros_in(&window[..n]);
-        if zeros < n {
-            return Ok(Some(First {
-                byte: window[zeros],
-                place: at + zeros as u64,
-                index: zeros,
-                held: n,
-            }));
-        }
-        at += n as u64;
-        most = grown(most);
-    }
-    Ok(None)
-}
-
-// Where the unit ends that begins at `from`, of whose first bytes the window holds those from `start` to `held`.
-pub(crate) fn end_of<F: Folder>(
-    folder: &mut F,
-    source: Source,
-    from: u64,
-    start: usize,
-    held: usize,
-    window: &mut [u8],
-) -> Result<u64, PortFault>
-    requires file { source.file < length (F.state folder.old).opened }
-    requires size { source.size ≡ (opened_at (F.state folder.old) source.file).size }
-    requires told { IfSome (opened_at (F.state folder.old) source.file).bytes (λ b. source.size ≡ length b) }
-    requires within { from + (held - start) ≤ source.size }
-    requires start { start ≤ held }
-    requires held { held ≤ length window.old }
-    requires window { 0 < length window.old }
-    requires holds { Holds (opened_at (F.state folder.old) source.file).bytes from (held - start) (drop start window.old) }
-    ensures inside { IfOk result (λ end. (from ≤ end) × (end ≤ source.size)) }
-    ensures end { IfOk result
-        (λ end. IfSome (opened_at (F.state folder.old) source.file).bytes (λ b. end ≡ from + unit_len (drop from b))) }
-    ensures same { OnOk result (F.state folder.new ≡ F.state folder.old) }
-    ensures failed { OnErr result (FailsToRead (F.state folder.old) (F.state folder.new)) }
-{
-    let stand = scan(0, &window[start..held]);
-    if stand.ended {
-        return Ok(from + stand.used as u64 - 2);
-    }
-    end_behind(
-        folder,
-        source,
-        from,
-        from + stand.used as u64,
-        stand.zeros,
-        window,
-    )
-}
-
 // Where the unit ends that begins at `from`, of which the bytes up to `passed` are passed, the last of them `zeros`
 // zeros.
-fn end_behind<F: Folder>(
+pub(crate) fn end_behind<F: Folder>(
     folder: &mut F,
     source: Source,
     from: u64,

@@ -1,7 +1,7 @@
-use Rattle.std.proofs.Common.{◌≡◌, ◌-◌, ◌≤◌, ◌<◌}
+use Rattle.std.proofs.Common.{◌≡◌, ◌-◌, ◌≤◌}
 use Rattle.mp_ports.specs.Folder.{opened_at}
-use Rattle.avc_units.specs.Scan.{HasZeros}
-use Rattle.avc_units.proofs.window.first_byte.Given as goal
+use Rattle.avc_units.specs.Scan.{Keeps, HasZeros}
+use Rattle.avc_units.proofs.piece.Piece.first_byte.Given as goal
 
 abbrev pub invariant-loop-at : goal.invariant-loop-at
 invariant-loop-at g l =
@@ -10,7 +10,7 @@ invariant-loop-at g l =
       same : g.F.Folder.state l.folder ≡ start;
       low : l.from ≤ l.at;
       high : l.at ≤ l.source.size;
-      some : 0 < l.most;
+      kept : Keeps (opened_at start l.source.file) l.self;
       zeros : HasZeros (opened_at start l.source.file).bytes l.from (l.at - l.from);
     }
 
