@@ -1,0 +1,7 @@
+mod PartsInParts
+mod EditLists
+mod Placed
+mod Numbers
+mod Steps
+mod Marks
+mod EntryCount

@@ -1,0 +1,6 @@
+pub mod Part
+pub mod Header
+pub mod Table
+pub mod Count
+pub mod Columns
+pub mod Track

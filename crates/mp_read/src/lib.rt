@@ -1,0 +1,22 @@
+//! MP4 files are read (ISO/IEC 14496-12): the boxes of `moov` in memory, and a track by its track box.
+//!
+//! Each check stands where it stands among the checks of a file, and the first that fails is answered with
+//! its place in the file. Of the samples, sizes and places are read, and none of their bytes.
+#![tactic(auto)]
+
+mod columns;
+mod count;
+mod edits;
+mod header;
+mod moov;
+mod sample_table;
+mod table;
+mod track;
+
+pub use columns::{SampleColumns, read_columns};
+pub use count::count_samples;
+pub use edits::read_edits;
+pub use moov::Moov;
+pub use sample_table::{SampleTable, read_sample_table};
+pub use table::{TableParts, find_tables};
+pub use track::{TrackTables, read_trak};
