@@ -1,0 +1,4 @@
+mod Counting
+mod Sharing
+mod Ranking
+mod Delaying

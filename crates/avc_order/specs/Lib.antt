@@ -1,0 +1,6 @@
+pub mod Picture
+pub mod Count
+pub mod Sequence
+pub mod Ranks
+pub mod Rising
+pub mod Delay
