@@ -100,9 +100,6 @@ placed-ok : {A : Type 0} (place : ℕ) (r : Result A Code) (x : A) → placed pl
 placed-ok place (Ok y) x e = cc
 placed-ok place (Err d) x e = absurd cc
 
-IsBytes-drop : (n : ℕ) (bytes : List ℕ) → IsBytes bytes → IsBytes (drop n bytes)
-IsBytes-drop n bytes h i = rw get_or-drop (h (n + i))
-
 shorter : (top : Bool) (text : List ℕ) (h : TopHead) (m : ℕ) → Reads top text h → length text ≤ suc m → length (drop h.len text) ≤ m
 shorter top text h m r le =
     let whole = r.whole_len in
@@ -127,7 +124,7 @@ cut-walk (suc m) top place (x ∷ xs) bs b le e =
     let h = p.0 in
     let q = bind_ok (walk m top (place + h.len) (drop h.len text)) (λ cs. Ok (front_box h place text ∷ cs)) bs p.2 in
     let r = head_at-spelled top text h b (placed-ok place (head_at top text) h p.1) in
-    let later : IsCut top (place + h.len) (drop h.len text) q.0 [] = cut-walk m top (place + h.len) (drop h.len text) q.0 (IsBytes-drop h.len text b) (shorter top text h m r le) q.1 in
+    let later : IsCut top (place + h.len) (drop h.len text) q.0 [] = cut-walk m top (place + h.len) (drop h.len text) q.0 (λ i. rw get_or-drop (b (h.len + i))) (shorter top text h m r le) q.1 in
     subst (λ (v : List Box). IsCut top place text v []) (ok_inj {E = Bad} _ bs q.2) (cut-more top place text h q.0 [] r later)
 
 -- a text is cut in at most one way
@@ -182,7 +179,7 @@ fault-walk (suc m) top place (x ∷ xs) bad b le e =
           let h = p.0 in
           let r = head_at-spelled top text h b (placed-ok place (head_at top text) h p.1) in
           elim (bind_err (walk m top (place + h.len) (drop h.len text)) (λ cs. Ok (front_box h place text ∷ cs)) bad p.2) [
-            | inl f ↦ fault-more top place text h bad r (fault-walk m top (place + h.len) (drop h.len text) bad (IsBytes-drop h.len text b) (shorter top text h m r le) f)
+            | inl f ↦ fault-more top place text h bad r (fault-walk m top (place + h.len) (drop h.len text) bad (λ i. rw get_or-drop (b (h.len + i))) (shorter top text h m r le) f)
             | inr q ↦ absurd (not_both {A = List Box} _ bad q.2)
           ]
     ]

@@ -1,6 +1,6 @@
 -- A walk over the boxes of a container's body tells whether it is whole boxes, or its first fault.
 use Rattle.std.proofs.Common.{◌≡◌, ℕ, ◌+◌, ◌-◌, ◌≤◌, Bool, false, List, [], ◌∷◌, ◌++◌, length, drop, Option, Some, None, Result, Ok, Err, refl, sym, ap, subst, ◌∙◌, arith, inl, inr, Fits, w8, get_or}
-use Rattle.std.proofs.lemmas.Bool.{cases_eq, ne_eqb, eq-eqb}
+use Rattle.std.proofs.lemmas.Bool.{cases_eq, ne_eqb}
 use Rattle.std.proofs.lemmas.List.{length-append, length-drop, drop-drop, drop_all, get_or-drop}
 use Rattle.mp_ports.specs.declared.code.Code.{Code}
 use Rattle.mp_ports.specs.declared.fault.Bad.{Bad}
@@ -11,6 +11,7 @@ use Rattle.mp_boxes.specs.Head.{head_fault, head_at, box_head, next_head}
 use Rattle.mp_boxes.specs.Boxes.{IsBytes, Box, IsContainer, IsCut, IsFirstFault, front_box}
 use Rattle.mp_boxes.proofs.HeadsWereSpelled.{head_at-spelled}
 use Rattle.mp_boxes.proofs.CutInOneWay.{rest_within, cut-more, walk-cut}
+use Rattle.mp_boxes.proofs.NextBoxes.{at_end, found_inj, not_err}
 
 -- boxes behind boxes
 cut-behind : (top : Bool) (place : ℕ) (text : List ℕ) (before : List Box) (middle : List ℕ) (more : List Box) (rest : List ℕ) → IsCut top place text before middle
@@ -27,20 +28,11 @@ pub record Walked (base : ℕ) (bytes : List ℕ) (at : ℕ) : Type 0 where
   pub before : List Box
   pub cut : IsCut false base bytes before (drop at bytes)
 
-found_inj : (x y : BoxHead) → let f : BoxHead → Result (Option BoxHead) Bad = λ v. Ok (Some v) in f x ≡ f y → x ≡ y
-found_inj x y e = cc
-
 bad_inj : (x y : Bad) → let f : Bad → Result (Option BoxHead) Bad = λ v. Err v in f x ≡ f y → x ≡ y
 bad_inj x y e = cc
 
 none_some : (x : BoxHead) → let f : Option BoxHead → Result (Option BoxHead) Bad = λ v. Ok v in f None ≡ f (Some x) → ⊥
 none_some x e = cc
-
-ok_err : (x : Option BoxHead) (d : Bad) → let f : Option BoxHead → Result (Option BoxHead) Bad = λ v. Ok v in f x ≡ Err d → ⊥
-ok_err x d e = cc
-
-at_end : (base at : ℕ) (bytes : List ℕ) → at ≡ length bytes → next_head base bytes at ≡ Ok None
-at_end base at bytes e = rw (eq-eqb at (length bytes) e) refl
 
 before_end : (base at : ℕ) (bytes : List ℕ) → (at ≡ length bytes → ⊥) → next_head base bytes at ≡ (placed (base + at) (head_at false (drop at bytes)) >>= λ head. Ok (Some (box_head at head)))
 before_end base at bytes more = rw (ne_eqb at (length bytes) more) refl
@@ -54,7 +46,7 @@ next-some base at bytes b e = by_head (head_at false (drop at bytes)) refl
 
     by_head : (r : Result TopHead Code) → head_at false (drop at bytes) ≡ r → (h : TopHead) × (head_at false (drop at bytes) ≡ Ok h) × (b ≡ box_head at h)
     by_head (Ok h) q = (h, q, sym (found_inj _ _ (rw (before_end base at bytes more, q) at e)))
-    by_head (Err d) q = absurd (ok_err (Some b) _ (sym (rw (before_end base at bytes more, q) at e)))
+    by_head (Err d) q = absurd (not_err (Some b) _ (sym (rw (before_end base at bytes more, q) at e)))
 
 next-none : (base at : ℕ) (bytes : List ℕ) → next_head base bytes at ≡ Ok None → at ≡ length bytes
 next-none base at bytes e = elim (cases_eq at (length bytes)) [
@@ -64,18 +56,18 @@ next-none base at bytes e = elim (cases_eq at (length bytes)) [
   where
     by_head : (at ≡ length bytes → ⊥) → (r : Result TopHead Code) → head_at false (drop at bytes) ≡ r → at ≡ length bytes
     by_head more (Ok h) q = absurd (none_some _ (sym (rw (before_end base at bytes more, q) at e)))
-    by_head more (Err d) q = absurd (ok_err None _ (sym (rw (before_end base at bytes more, q) at e)))
+    by_head more (Err d) q = absurd (not_err None _ (sym (rw (before_end base at bytes more, q) at e)))
 
 next-err : (base at : ℕ) (bytes : List ℕ) (bad : Bad) → next_head base bytes at ≡ Err bad
     → (code : Code) × (head_fault false (drop at bytes) (length (drop at bytes)) ≡ Some code) × (bad ≡ bad_at code (base + at)) × (at ≡ length bytes → ⊥)
 next-err base at bytes bad e = by_fault (head_fault false (drop at bytes) (length (drop at bytes))) refl
   where
     more : at ≡ length bytes → ⊥
-    more q = ok_err None bad (sym (at_end base at bytes q) ∙ e)
+    more q = not_err None bad (sym (at_end base at bytes q) ∙ e)
 
     by_fault : (f : Option Code) → head_fault false (drop at bytes) (length (drop at bytes)) ≡ f
         → (code : Code) × (head_fault false (drop at bytes) (length (drop at bytes)) ≡ Some code) × (bad ≡ bad_at code (base + at)) × (at ≡ length bytes → ⊥)
-    by_fault None q = absurd (ok_err _ bad (rw (before_end base at bytes more, q) at e))
+    by_fault None q = absurd (not_err _ bad (rw (before_end base at bytes more, q) at e))
     by_fault (Some code) q = (code, q, sym (bad_inj _ _ (rw (before_end base at bytes more, q) at e)), more)
 
 pub walked_on : (base at : ℕ) (bytes : List ℕ) (b : BoxHead) → ((i : ℕ) → Fits w8 (get_or bytes i 0)) → at ≤ length bytes → next_head base bytes at ≡ Ok (Some b) → Walked base bytes at → Walked base bytes (at + b.len)

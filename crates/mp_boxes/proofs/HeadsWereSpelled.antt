@@ -3,7 +3,7 @@ use Rattle.std.proofs.Common.{◌≡◌, ℕ, zero, suc, ◌+◌, ◌-◌, ◌^�
 use Rattle.std.specs.Prelude.{codes}
 use Rattle.std.specs.Str.{bytes_eq}
 use Rattle.std.specs.Int.{w32, w64, to_be_bytes}
-use Rattle.std.proofs.lemmas.Bool.{cases_eq, ltb-false, ne_eqb}
+use Rattle.std.proofs.lemmas.Bool.{cases_eq, ltb-false, ne_eqb, not-false}
 use Rattle.std.proofs.lemmas.List.{take-append-drop, length-take, length-drop, drop_more, same_lists, places, drop_all}
 use Rattle.std.proofs.lemmas.Nat.{be_bytes_4, be_bytes_8}
 use Rattle.mp_ports.specs.declared.code.Code.{Code}
@@ -125,10 +125,6 @@ front_of_4 a k w d text m head e h l = rw (e, h) (same_lists _ _ (search (rules,
 four_four : (xs : List ℕ) → IsBytes xs → 8 ≤ length xs → xs ≡ to_be_bytes w32 (u32_at xs 0) ++ (kind_at xs 4 ++ drop 8 xs)
 four_four xs b h = u32_at-spelled xs 0 b (omega arith) ∙ ap (λ (x : List ℕ). to_be_bytes w32 (u32_at xs 0) ++ x) (kind_at-spelled xs 4 (omega arith))
 
-not_not : (b : Bool) → not b ≡ false → b ≡ true
-not_not true e = refl
-not_not false e = absurd cc
-
 module _ (top : Bool) (text : List ℕ) (h : TopHead) (bytes : IsBytes text) (p : Passed top text (length text) h) where
   size : ℕ
   size = u32_at text 0
@@ -200,7 +196,7 @@ module _ (top : Bool) (text : List ℕ) (h : TopHead) (bytes : IsBytes text) (p 
   up_to_end e =
       let head_is : h.head ≡ 8 + more = p.head ∙ rw e refl in
       let len_is : h.len ≡ length text = p.len ∙ rw e refl in
-      let at_top : top ≡ true = not_not top (rw e at p.not_open) in
+      let at_top : top ≡ true = not-false top (rw e at p.not_open) in
       let room : h.head ≤ length text = let a = p.head_in in let b = p.len_in in omega arith in
       let rest : more ≤ length (drop 8 text) = omega (arith, length-drop 8 text) in
       let m_len : length (take more (drop 8 text)) ≡ more = omega (arith, length-take more (drop 8 text)) in

@@ -11,13 +11,13 @@ use Rattle.mp_boxes.specs.Child.{IsFirstOf, IsHeadOf, IsNextOf}
 use Rattle.mp_boxes.proofs.HeadersAreRead.{head_at-written, IsHeader-long}
 use Rattle.mp_boxes.proofs.CutInOneWay.{body_of, rest_of}
 
-found_inj : (x y : BoxHead) → let f : BoxHead → Result (Option BoxHead) Bad = λ v. Ok (Some v) in f x ≡ f y → x ≡ y
+pub found_inj : (x y : BoxHead) → let f : BoxHead → Result (Option BoxHead) Bad = λ v. Ok (Some v) in f x ≡ f y → x ≡ y
 found_inj x y e = cc
 
 not_none : (x : BoxHead) → let f : Option BoxHead → Result (Option BoxHead) Bad = λ v. Ok v in f (Some x) ≡ f None → ⊥
 not_none x h = cc
 
-not_err : (x : Option BoxHead) (d : Bad) → let f : Option BoxHead → Result (Option BoxHead) Bad = λ v. Ok v in f x ≡ Err d → ⊥
+pub not_err : (x : Option BoxHead) (d : Bad) → let f : Option BoxHead → Result (Option BoxHead) Bad = λ v. Ok v in f x ≡ Err d → ⊥
 not_err x d h = cc
 
 pub at_end : (base at : ℕ) (bytes : List ℕ) → at ≡ length bytes → next_head base bytes at ≡ Ok None

@@ -6,18 +6,18 @@ use Rattle.std.proofs.lemmas.List.{append-nil, length-append}
 use Rattle.mp_boxes.specs.Header.{Short, IsHeader}
 use Rattle.mp_boxes.specs.Boxes.{Box, IsCut, boxes}
 use Rattle.mp_boxes.specs.Field.{Part, box_bytes, boxes_bytes}
-use Rattle.mp_boxes.specs.Parts.{HasPlainKind, listed}
+use Rattle.mp_boxes.specs.Parts.{HasCompactType, listed}
 use Rattle.mp_boxes.proofs.CutInOneWay.{walk-cut}
 use Rattle.mp_boxes.proofs.Lengths.{box_bytes-len}
 
 header : Part → List ℕ
 header part = to_be_bytes w32 (8 + length part.body) ++ part.kind
 
-header-len : (part : Part) → HasPlainKind part → length (header part) ≡ 8
+header-len : (part : Part) → HasCompactType part → length (header part) ≡ 8
 unfolding header
 header-len part k = let four = k.four in omega (arith, length-append (to_be_bytes w32 (8 + length part.body)) part.kind)
 
-is_header : (top : Bool) (after : List ℕ) (part : Part) → HasPlainKind part → 8 + length part.body < 2 ^ 32 → IsHeader top part.kind (length part.body) after (header part)
+is_header : (top : Bool) (after : List ℕ) (part : Part) → HasCompactType part → 8 + length part.body < 2 ^ 32 → IsHeader top part.kind (length part.body) after (header part)
 unfolding header
 is_header top after part k short = record {
   spelling = Short;
@@ -29,7 +29,7 @@ is_header top after part k short = record {
 }
 
 -- parts in front of a text are cut off as just these boxes
-pub parts-cut : (top : Bool) (place : ℕ) (parts : List Part) (after : List ℕ) (more : List Box) → AllByRecursion HasPlainKind parts → length (boxes_bytes parts) < 2 ^ 32
+pub parts-cut : (top : Bool) (place : ℕ) (parts : List Part) (after : List ℕ) (more : List Box) → AllByRecursion HasCompactType parts → length (boxes_bytes parts) < 2 ^ 32
     → IsCut top (place + length (boxes_bytes parts)) after more [] → IsCut top place (boxes_bytes parts ++ after) (listed place parts ++ more) []
 unfolding header box_bytes boxes_bytes
 parts-cut top place [] after more kinds lt c = subst (λ (k : ℕ). IsCut top k after more []) (omega arith) c
@@ -47,7 +47,7 @@ parts-cut top place (part ∷ parts) after more kinds lt c =
     )
 
 -- parts are read as they were written
-pub parts-read : (top : Bool) (place : ℕ) (parts : List Part) → AllByRecursion HasPlainKind parts → length (boxes_bytes parts) < 2 ^ 32 → boxes top place (boxes_bytes parts) ≡ Ok (listed place parts)
+pub parts-read : (top : Bool) (place : ℕ) (parts : List Part) → AllByRecursion HasCompactType parts → length (boxes_bytes parts) < 2 ^ 32 → boxes top place (boxes_bytes parts) ≡ Ok (listed place parts)
 parts-read top place parts kinds lt =
     let cut : IsCut top place (boxes_bytes parts ++ []) (listed place parts ++ []) [] = parts-cut top place parts [] [] kinds lt refl in
     let text : IsCut top place (boxes_bytes parts) (listed place parts ++ []) [] = subst (λ (t : List ℕ). IsCut top place t (listed place parts ++ []) []) (append-nil (boxes_bytes parts)) cut in

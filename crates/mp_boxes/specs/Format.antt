@@ -6,7 +6,7 @@ use Rattle.mp_ports.specs.declared.fault.Bad.{Bad}
 use Rattle.mp_ports.specs.Checks.{◌>>=◌}
 use Rattle.mp_boxes.specs.Boxes.{Box, IsCut, boxes}
 use Rattle.mp_boxes.specs.Field.{Part, boxes_bytes}
-use Rattle.mp_boxes.specs.Parts.{HasPlainKind}
+use Rattle.mp_boxes.specs.Parts.{HasCompactType}
 
 -- a box without its place and the spelling of its header
 abbrev pub part_of : Box → Part
@@ -34,8 +34,10 @@ only kind parts = only_of (bodies kind parts)
 pub record IsFormat {V : Type 0} (part : V → Part) (read : ℕ → List ℕ → Result V Bad) (Fits : V → Type 0) : Type 0 where
   pub back : (value : V) (base : ℕ) → Fits value → read base (part value).body ≡ Ok value
 
--- the parts of boxes that are written one after another are just these, with those of what is behind them
+-- the parts of boxes that are written one after another are just these, with those of what is behind them; a text has the same parts
+-- wherever it stands
 pub record PartsAreFound : Type 0 where
-  pub alone : (parts : List Part) → AllByRecursion HasPlainKind parts → length (boxes_bytes parts) < 2 ^ 32 → parts_of (boxes_bytes parts) ≡ Ok parts
-  pub in_front : (parts : List Part) (after : List ℕ) (more : List Box) → AllByRecursion HasPlainKind parts → length (boxes_bytes parts) < 2 ^ 32
+  pub alone : (parts : List Part) → AllByRecursion HasCompactType parts → length (boxes_bytes parts) < 2 ^ 32 → parts_of (boxes_bytes parts) ≡ Ok parts
+  pub in_front : (parts : List Part) (after : List ℕ) (more : List Box) → AllByRecursion HasCompactType parts → length (boxes_bytes parts) < 2 ^ 32
       → IsCut false (length (boxes_bytes parts)) after more [] → parts_of (boxes_bytes parts ++ after) ≡ Ok (parts ++ map part_of more)
+  pub anywhere : (place : ℕ) (text : List ℕ) (found : List Box) → boxes false place text ≡ Ok found → parts_of text ≡ Ok (map part_of found)

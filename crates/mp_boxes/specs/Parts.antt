@@ -6,8 +6,8 @@ use Rattle.std.specs.Int.{w32, to_be_bytes}
 use Rattle.mp_boxes.specs.Field.{Part, boxes_bytes}
 use Rattle.mp_boxes.specs.Boxes.{Box, IsCut, boxes}
 
--- a type of four bytes, and not `uuid`, whose header is longer
-pub record HasPlainKind (part : Part) : Type 0 where
+-- a compact type: four bytes, and not `uuid`, behind which an extended type stands
+pub record HasCompactType (part : Part) : Type 0 where
   pub four : length part.kind ≡ 4
   pub plain : bytes_eq part.kind (codes "uuid") ≡ false
 
@@ -22,7 +22,7 @@ listed place (part ∷ parts) = box_of place part ∷ listed (place + (8 + lengt
 
 -- boxes that are written one after another are read as just these boxes, and in front of a text that is cut into others
 pub record PartsAreRead : Type 0 where
-  pub alone : (top : Bool) (place : ℕ) (parts : List Part) → AllByRecursion HasPlainKind parts → length (boxes_bytes parts) < 2 ^ 32
+  pub alone : (top : Bool) (place : ℕ) (parts : List Part) → AllByRecursion HasCompactType parts → length (boxes_bytes parts) < 2 ^ 32
       → boxes top place (boxes_bytes parts) ≡ Ok (listed place parts)
-  pub in_front : (top : Bool) (place : ℕ) (parts : List Part) (after : List ℕ) (more : List Box) → AllByRecursion HasPlainKind parts → length (boxes_bytes parts) < 2 ^ 32
+  pub in_front : (top : Bool) (place : ℕ) (parts : List Part) (after : List ℕ) (more : List Box) → AllByRecursion HasCompactType parts → length (boxes_bytes parts) < 2 ^ 32
       → IsCut top (place + length (boxes_bytes parts)) after more [] → IsCut top place (boxes_bytes parts ++ after) (listed place parts ++ more) []

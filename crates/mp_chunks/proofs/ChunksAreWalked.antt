@@ -3,12 +3,12 @@ use Rattle.std.proofs.Common.{◌≡◌, ℕ, ◌+◌, ◌^◌, ◌<◌, ◌≤�
 use Rattle.std.specs.List.{list_any}
 use Rattle.mp_chunks.specs.declared.chunks.ChunkRun.{ChunkRun}
 use Rattle.mp_chunks.specs.declared.tables.Tables.{Tables}
-use Rattle.mp_chunks.specs.declared.places.Chunk.{Chunk}
+use Rattle.mp_chunks.specs.declared.places.ChunkSamples.{ChunkSamples}
 use Rattle.mp_chunks.specs.declared.walk.Limits.{Limits}
 use Rattle.mp_chunks.specs.declared.walk.Walk.{Walk}
 use Rattle.mp_chunks.specs.Chunks.{or_no_run, run_of_chunk, runs_of_chunks}
 use Rattle.mp_chunks.specs.Places.{counts_of, sample_at, no_sample, is_outside}
-use Rattle.mp_chunks.specs.Answer.{PlacesRecord, columns_of, sizes, offsets, runs, chunks, samples}
+use Rattle.mp_chunks.specs.Samples.{PlacesRecord, columns_of, sizes, offsets, runs, chunks, samples}
 use Rattle.mp_chunks.specs.Walk.{AreInOrder, AreRead, HasPlaced, HasWalked, IsChunk, IsWalked, PlacesOrOutside, lacks_runs}
 use Rattle.mp_chunks.proofs.MapFaults.{some_runs}
 use Rattle.mp_chunks.proofs.RunsAreFound.{before_first, held_more, held_none}
@@ -30,7 +30,7 @@ next_chunk t limits before first run from read lt held is_run ends eo =
     }
 
 -- a sample of the chunk
-chunk_sample : (t : Tables) (chunk : Chunk) (i size from : ℕ) → IsChunk t chunk → AreInOrder (runs t) → chunk.first ≤ i → i < chunk.first + chunk.count → size ≡ slice_index (sizes t) i
+chunk_sample : (t : Tables) (chunk : ChunkSamples) (i size from : ℕ) → IsChunk t chunk → AreInOrder (runs t) → chunk.first ≤ i → i < chunk.first + chunk.count → size ≡ slice_index (sizes t) i
     → from ≡ chunk.from + sum (drop chunk.first (take i (sizes t))) → sample_at (samples t) i ≡ record { size = size; kind = chunk.kind; from = from }
 chunk_sample t chunk i size from is_chunk order le lt es ef = is_chunk.placed order i le lt ∙ same_sample _ _ (sym es) refl (sym ef)
 
@@ -43,7 +43,7 @@ none_placed t file_size places e = record {
   placed = λ order. record { columns = e; inside = λ k lt. absurd (omega arith) };
 }
 
-pub sample_more : (t : Tables) (file_size : ℕ) (chunk : Chunk) (i size from : ℕ) (old new : PlacesRecord) → IsChunk t chunk → chunk.first ≤ i → i < chunk.first + chunk.count → size ≡ slice_index (sizes t) i
+pub sample_more : (t : Tables) (file_size : ℕ) (chunk : ChunkSamples) (i size from : ℕ) (old new : PlacesRecord) → IsChunk t chunk → chunk.first ≤ i → i < chunk.first + chunk.count → size ≡ slice_index (sizes t) i
     → from ≡ chunk.from + sum (drop chunk.first (take i (sizes t))) → is_outside file_size record { size = size; kind = chunk.kind; from = from } ≡ false → HasPlaced t file_size i old
     → new ≡ record { sizes = old.sizes ++ pos size ∷ []; kinds = old.kinds ++ pos chunk.kind ∷ []; from = old.from ++ from ∷ [] } → HasPlaced t file_size (i + 1) new
 sample_more t file_size chunk i size from old new is_chunk le lt es ef inside has e = record {
@@ -54,7 +54,7 @@ sample_more t file_size chunk i size from old new is_chunk le lt es ef inside ha
       (chunk_sample t chunk i size from is_chunk order le lt es ef) inside e;
 }
 
-pub outside_found : (t : Tables) (file_size : ℕ) (chunk : Chunk) (i size from : ℕ) → IsChunk t chunk → chunk.first ≤ i → i < chunk.first + chunk.count → size ≡ slice_index (sizes t) i
+pub outside_found : (t : Tables) (file_size : ℕ) (chunk : ChunkSamples) (i size from : ℕ) → IsChunk t chunk → chunk.first ≤ i → i < chunk.first + chunk.count → size ≡ slice_index (sizes t) i
     → from ≡ chunk.from + sum (drop chunk.first (take i (sizes t))) → is_outside file_size record { size = size; kind = chunk.kind; from = from } ≡ true → AreInOrder (runs t) → list_any (is_outside file_size) (samples t) ≡ true
 outside_found t file_size chunk i size from is_chunk le lt es ef outside order =
     any_at (is_outside file_size) (samples t) i no_sample (omega (arith, is_chunk.ends, samples_len (chunks t) (offsets t) (sizes t))) (ap (is_outside file_size) (chunk_sample t chunk i size from is_chunk order le lt es ef) ∙ outside)

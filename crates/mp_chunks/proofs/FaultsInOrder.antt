@@ -16,7 +16,7 @@ use Rattle.mp_chunks.specs.declared.walk.Walk.{Walk}
 use Rattle.mp_chunks.specs.Sizes.{sample_count, size_checks}
 use Rattle.mp_chunks.specs.Chunks.{offset_len, run_len, runs_fault, runs_of_chunks}
 use Rattle.mp_chunks.specs.Places.{counts_of, no_sample, is_outside}
-use Rattle.mp_chunks.specs.Answer.{AreWithin, PlacesRecord, chunks, columns_of, count_from, map_fault, offsets, offsets_body, placed_from, runs, samples, sizes, sizes_body, stsc_body}
+use Rattle.mp_chunks.specs.Samples.{AreWithin, PlacesRecord, chunks, columns_of, count_from, map_fault, offsets, offsets_body, placed_from, runs, samples, sizes, sizes_body, stsc_body}
 use Rattle.mp_chunks.specs.Walk.{AreRead, IsDone, lacks_runs}
 use Rattle.mp_chunks.proofs.TablesAreRead.{offsets_len, stsc_len}
 use Rattle.mp_chunks.proofs.MapFaults.{count_fault, no_fault, no_run_fault}

@@ -1,5 +1,5 @@
 -- The first fault of a list of checks, row by row.
-use Rattle.std.proofs.Common.{◌≡◌, ℕ, zero, suc, ◌+◌, ◌-◌, ◌<◌, ◌≤◌, List, ◌∷◌, map, Option, Some, None, refl, sym, ap, ◌∙◌, arith, inl, inr}
+use Rattle.std.proofs.Common.{◌≡◌, ℕ, zero, suc, ◌+◌, ◌-◌, ◌<◌, ◌≤◌, ◌⊎◌, ◌∷◌, map, Option, Some, None, refl, sym, ap, ◌∙◌, arith, inl, inr}
 use Rattle.std.proofs.lemmas.Bool.{cases_lt}
 use Rattle.std.specs.List.{range_with_len}
 use Rattle.mp_ports.specs.Checks.{first_some}
@@ -25,19 +25,13 @@ stops fault n j all found lt e h =
 pub ends : {A : Type 0} (fault : ℕ → Option A) (n j : ℕ) (all : Option A) → n ≤ j → faults_from fault n j ≡ all → all ≡ None
 ends fault n j all le h = let e : n - j ≡ 0 = omega arith in sym h ∙ rw e refl
 
-no_some : {A : Type 0} (x : A) → ◌≡◌ {A = Option A} (Some x) None → ⊥
-no_some x h = cc
-
-first_none : {A : Type 0} (found : Option A) (rest : List (Option A)) → first_some (found ∷ rest) ≡ None → (found ≡ None) × (first_some rest ≡ None)
-first_none None rest h = (refl, h)
-first_none (Some x) rest h = absurd (no_some x h)
-
 -- where there is no fault, no row has one
 pub no_row : {A : Type 0} (fault : ℕ → Option A) (n j : ℕ) → first_some (map fault (range_with_len j n)) ≡ None → (k : ℕ) → j ≤ k → k < j + n → fault k ≡ None
 no_row fault zero j h k le lt = absurd (omega arith)
-no_row fault (suc n) j h k le lt =
-    let both = first_none (fault j) (map fault (range_with_len (j + 1) n)) h in
-    elim (cases_lt j k) [
-      | inl later ↦ no_row fault n (j + 1) both.1 k (omega arith) (omega arith)
-      | inr here ↦ let e : k ≡ j = omega arith in rw e both.0
-    ]
+no_row fault (suc n) j h k le lt = by (fault j) refl h (cases_lt j k) (λ rest later. no_row fault n (j + 1) rest k (omega arith) (omega arith))
+  where
+    by : (found : Option _) → fault j ≡ found → first_some (found ∷ map fault (range_with_len (j + 1) n)) ≡ None → (j < k) ⊎ (k ≤ j)
+        → (first_some (map fault (range_with_len (j + 1) n)) ≡ None → j < k → fault k ≡ None) → fault k ≡ None
+    by None e h (inl later) behind = behind h later
+    by None e h (inr here) behind = let same : k ≡ j = omega arith in rw same e
+    by (Some x) e h place behind = absurd cc

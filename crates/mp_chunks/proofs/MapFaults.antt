@@ -6,7 +6,7 @@ use Rattle.mp_ports.specs.declared.code.Code.TheVariants.{ChunkMap}
 use Rattle.mp_chunks.specs.declared.chunks.ChunkRun.{ChunkRun}
 use Rattle.mp_chunks.specs.Chunks.{runs_of_chunks}
 use Rattle.mp_chunks.specs.Places.{counts_of}
-use Rattle.mp_chunks.specs.Answer.{map_fault}
+use Rattle.mp_chunks.specs.Samples.{map_fault}
 
 pub some_runs : (chunks runs : ℕ) → (nat_lt 0 chunks && (runs == 0)) ≡ false → 0 < chunks → 0 < runs
 some_runs chunks runs h some = elim (cases_lt 0 runs) [

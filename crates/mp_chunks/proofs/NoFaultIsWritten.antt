@@ -16,9 +16,9 @@ use Rattle.mp_boxes.specs.FullBox.{table_fault, table_rows}
 use Rattle.mp_boxes.specs.Table.{TablesAreRead}
 use Rattle.mp_chunks.specs.declared.chunks.ChunkRun.{ChunkRun}
 use Rattle.mp_chunks.specs.declared.push.ChunkHead.{ChunkHead}
-use Rattle.mp_chunks.specs.Chunks.{begins, no_run, offset_len, offsets_of, run_at, run_fault, run_len, runs_fault, runs_of_chunks, stsc_of}
+use Rattle.mp_chunks.specs.Chunks.{begins, no_run, offset_len, chunk_offsets_of, run_at, run_fault, run_len, runs_fault, runs_of_chunks, stsc_of}
 use Rattle.mp_chunks.specs.Places.{counts_of, is_outside}
-use Rattle.mp_chunks.specs.Answer.{chunks_fault_of, map_fault, outside_fault, samples_by}
+use Rattle.mp_chunks.specs.Samples.{chunks_fault_of, map_fault, outside_fault, samples_by}
 use Rattle.mp_chunks.specs.Written.{AreReadBack, AreWritable, IsWritable, PlacedChunk, bodies_in, head_of, is_of, offsets_body, place_row, run_from, run_row, runs_behind, runs_of, samples_at, samples_from, samples_in, sizes_in, stsc_body, stsz_body}
 use Rattle.mp_chunks.proofs.MapFaults.{no_fault}
 use Rattle.mp_chunks.proofs.RunsAreReadBack.{counts_read, entry_read, no_head}
@@ -168,8 +168,8 @@ places_in wide entries file_size [] each = refl
 places_in wide entries file_size (chunk ∷ chunks) each = rw (place_in wide (head_of chunk) each.0.placed, places_in wide entries file_size chunks each.1) refl
 
 offsets_read : TablesAreRead → (wide : Bool) (entries file_size : ℕ) (chunks : List PlacedChunk) → Writable wide entries file_size chunks → length chunks < 2 ^ 32
-    → IsReadAs (offset_len wide) (offsets_body wide (heads chunks)) (offsets_of wide (offsets_body wide (heads chunks))) (map (λ chunk. chunk.place) chunks)
-unfolding offsets_body offsets_of
+    → IsReadAs (offset_len wide) (offsets_body wide (heads chunks)) (chunk_offsets_of wide (offsets_body wide (heads chunks))) (map (λ chunk. chunk.place) chunks)
+unfolding offsets_body chunk_offsets_of
 offsets_read tables wide entries file_size chunks each few =
     let rows = map (place_row wide) (heads chunks) in
     let table = tables.table 0 (offset_len wide) false rows (wide_each wide (heads chunks)) (omega (arith, length-map (heads chunks) (place_row wide), length-map chunks head_of)) (omega arith) in
@@ -177,7 +177,7 @@ offsets_read tables wide entries file_size chunks each few =
   where
     by : (wide : Bool) → table_rows (offset_len wide) (offsets_body wide (heads chunks)) ≡ map body_bytes (map (place_row wide) (heads chunks))
         → map (λ row. if wide then u64_at row 0 else u32_at row 0) (map body_bytes (map (place_row wide) (heads chunks))) ≡ map (λ chunk. chunk.place) chunks
-        → offsets_of wide (offsets_body wide (heads chunks)) ≡ map (λ chunk. chunk.place) chunks
+        → chunk_offsets_of wide (offsets_body wide (heads chunks)) ≡ map (λ chunk. chunk.place) chunks
     by true cut read = ap (map (λ (row : List ℕ). u64_at row 0)) cut ∙ read
     by false cut read = ap (map (λ (row : List ℕ). u32_at row 0)) cut ∙ read
 
@@ -222,7 +222,7 @@ are_of chunks = record {
 record IsReadBack (wide : Bool) (entries file_size : ℕ) (chunks : List PlacedChunk) : Type 0 where
   pub sizes : HasSizes (stsz_body (sizes_in chunks)) (sizes_in chunks)
   pub stsc : IsReadAs run_len (stsc_body (heads chunks)) (stsc_of (stsc_body (heads chunks))) (runs_of (heads chunks))
-  pub offsets : IsReadAs (offset_len wide) (offsets_body wide (heads chunks)) (offsets_of wide (offsets_body wide (heads chunks))) (map (λ chunk. chunk.place) chunks)
+  pub offsets : IsReadAs (offset_len wide) (offsets_body wide (heads chunks)) (chunk_offsets_of wide (offsets_body wide (heads chunks))) (map (λ chunk. chunk.place) chunks)
   pub runs : runs_fault entries (runs_of (heads chunks)) ≡ None
 
 all_sound : (wide : Bool) (entries file_size : ℕ) (chunks : List PlacedChunk) → AreWritable wide entries file_size chunks → AreSound entries 1 (runs_of (heads chunks))

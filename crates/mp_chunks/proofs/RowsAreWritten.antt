@@ -1,5 +1,5 @@
 -- The rows that are written: their widths, and their text.
-use Rattle.std.proofs.Common.{◌≡◌, ℕ, ◌+◌, ◌*◌, ◌==◌, Bool, true, false, if◌then◌else◌, List, [], ◌∷◌, ◌++◌, length, map, codes, refl, ap, ◌∙◌, arith}
+use Rattle.std.proofs.Common.{◌≡◌, ℕ, ◌+◌, ◌*◌, ◌==◌, Bool, true, false, if◌then◌else◌, List, [], ◌∷◌, length, map, codes, refl, arith}
 use Rattle.std.specs.List.{flat_map, AllByRecursion}
 use Rattle.mp_boxes.specs.Field.{body_bytes}
 use Rattle.mp_boxes.specs.Table.{HasWidth, box_len, with_rows}

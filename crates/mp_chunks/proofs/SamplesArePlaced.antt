@@ -11,7 +11,7 @@ use Rattle.mp_chunks.specs.declared.chunks.ChunkRun.{ChunkRun}
 use Rattle.mp_chunks.specs.Sizes.{sample_count, common_size, field_bits, halves, stsz_of, stz2_of, sizes_of, size_checks, stz2_checks}
 use Rattle.mp_chunks.specs.Chunks.{no_run, or_no_run, run_at, run_of_chunk, runs_of_chunks}
 use Rattle.mp_chunks.specs.Places.{SamplePlace, counts_of, held, chunk_of, sample_of, samples_of, sample_at, no_sample, is_outside}
-use Rattle.mp_chunks.specs.Answer.{PlacesRecord, columns_of}
+use Rattle.mp_chunks.specs.Samples.{PlacesRecord, columns_of}
 use Rattle.mp_chunks.specs.Walk.{ArePlaced}
 use Rattle.mp_chunks.proofs.RowsAreRead.{length-map-rows_of}
 

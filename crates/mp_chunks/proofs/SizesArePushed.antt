@@ -130,8 +130,10 @@ more_sizes start now next items from to size stretch is e left pushed = λ other
     (subst (λ (pieces : List (List ℕ)). IsPushing now pieces all) (ap (λ (pieces : List (List ℕ)). pieces ++ others) cut ∙ append_assoc copies (size_pieces (drop to items)) others) (left others all pushing))
 
 -- one copy more
-pub next_copy : (n k : ℕ) (piece : List ℕ) → k < n → replicate (n - k) piece ≡ piece ∷ replicate (n - (k + 1)) piece
-next_copy n k piece lt = let one : n - k ≡ suc (n - (k + 1)) = omega arith in ap (λ (m : ℕ). replicate m piece) one
+pub next_copy : (n k : ℕ) (piece bytes : List ℕ) → piece ≡ bytes → k < n → replicate (n - k) piece ≡ bytes ∷ replicate (n - (k + 1)) piece
+next_copy n k piece bytes same lt =
+    let one : n - k ≡ suc (n - (k + 1)) = omega arith in
+    ap (λ (m : ℕ). replicate m piece) one ∙ ap (λ (first : List ℕ). first ∷ replicate (n - (k + 1)) piece) same
 
 pub no_copy : (n k : ℕ) (piece : List ℕ) → n ≤ k → replicate (n - k) piece ≡ []
 no_copy n k piece le = let none : n - k ≡ 0 = omega arith in ap (λ (m : ℕ). replicate m piece) none

@@ -6,25 +6,25 @@ use Rattle.mp_boxes.specs.Number.{u16_at, u32_at, u64_at}
 use Rattle.mp_chunks.specs.declared.chunks.ChunkRun.{ChunkRun}
 use Rattle.mp_boxes.specs.FullBox.{row_count}
 use Rattle.mp_chunks.specs.Sizes.{sample_count, common_size, stsz_of, stz2_of, halves, field_bits}
-use Rattle.mp_chunks.specs.Chunks.{offsets_of, stsc_of, run_at, no_run}
+use Rattle.mp_chunks.specs.Chunks.{chunk_offsets_of, stsc_of, run_at, no_run}
 use Rattle.mp_chunks.proofs.RowsAreRead.{get_or-map-rows_of, length-map-rows_of, u16_in_row, u32_in_row, u64_in_row}
 
-pub wide_offset : (wide : Bool) (body : List ℕ) (j : ℕ) → wide ≡ true → j < row_count body → u64_at body (8 + 8 * j) ≡ slice_index (offsets_of wide body) j
-unfolding offsets_of
+pub wide_offset : (wide : Bool) (body : List ℕ) (j : ℕ) → wide ≡ true → j < row_count body → u64_at body (8 + 8 * j) ≡ slice_index (chunk_offsets_of wide body) j
+unfolding chunk_offsets_of
 wide_offset wide body j e lt =
     rw e
     (sym
     (get_or-map-rows_of (λ (row : List ℕ). u64_at row 0) (row_count body) 8 j (drop 8 body) 0 lt ∙ (u64_in_row 8 8 (8 * j) 0 body (omega arith) ∙ ap (u64_at body) (omega arith))))
 
-pub short_offset : (wide : Bool) (body : List ℕ) (j : ℕ) → wide ≡ false → j < row_count body → u32_at body (8 + 4 * j) ≡ slice_index (offsets_of wide body) j
-unfolding offsets_of
+pub short_offset : (wide : Bool) (body : List ℕ) (j : ℕ) → wide ≡ false → j < row_count body → u32_at body (8 + 4 * j) ≡ slice_index (chunk_offsets_of wide body) j
+unfolding chunk_offsets_of
 short_offset wide body j e lt =
     rw e
     (sym
     (get_or-map-rows_of (λ (row : List ℕ). u32_at row 0) (row_count body) 4 j (drop 8 body) 0 lt ∙ (u32_in_row 4 8 (4 * j) 0 body (omega arith) ∙ ap (u32_at body) (omega arith))))
 
-pub offsets_len : (wide : Bool) (body : List ℕ) → length (offsets_of wide body) ≡ row_count body
-unfolding offsets_of
+pub offsets_len : (wide : Bool) (body : List ℕ) → length (chunk_offsets_of wide body) ≡ row_count body
+unfolding chunk_offsets_of
 offsets_len true body = length-map-rows_of (λ (row : List ℕ). u64_at row 0) (row_count body) 8 (drop 8 body)
 offsets_len false body = length-map-rows_of (λ (row : List ℕ). u32_at row 0) (row_count body) 4 (drop 8 body)
 

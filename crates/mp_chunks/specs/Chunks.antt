@@ -13,8 +13,8 @@ abbrev pub offset_len : Bool → ℕ
 offset_len wide = if wide then 8 else 4
 
 -- the place of each chunk in the file
-unfoldable pub offsets_of : Bool → List ℕ → List ℕ
-offsets_of wide body = if wide then map (λ row. u64_at row 0) (table_rows 8 body) else map (λ row. u32_at row 0) (table_rows 4 body)
+unfoldable pub chunk_offsets_of : Bool → List ℕ → List ℕ
+chunk_offsets_of wide body = if wide then map (λ row. u64_at row 0) (table_rows 8 body) else map (λ row. u32_at row 0) (table_rows 4 body)
 
 -- the length of a row of `stsc`
 abbrev pub run_len : ℕ

@@ -2,6 +2,6 @@ pub mod Table
 pub mod Sizes
 pub mod Chunks
 pub mod Places
-pub mod Answer
+pub mod Samples
 pub mod Walk
 pub mod Written

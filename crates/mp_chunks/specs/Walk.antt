@@ -8,13 +8,13 @@ use Rattle.mp_ports.specs.Checks.{fault_at, first_code}
 use Rattle.mp_boxes.specs.FullBox.{HasRows, table_fault}
 use Rattle.mp_chunks.specs.declared.chunks.ChunkRun.{ChunkRun}
 use Rattle.mp_chunks.specs.declared.tables.Tables.{Tables}
-use Rattle.mp_chunks.specs.declared.places.Chunk.{Chunk}
+use Rattle.mp_chunks.specs.declared.places.ChunkSamples.{ChunkSamples}
 use Rattle.mp_chunks.specs.declared.walk.Limits.{Limits}
 use Rattle.mp_chunks.specs.declared.walk.Walk.{Walk}
 use Rattle.mp_chunks.specs.Sizes.{size_checks}
 use Rattle.mp_chunks.specs.Chunks.{run_at, run_len, offset_len, runs_fault, runs_of_chunks}
 use Rattle.mp_chunks.specs.Places.{SamplePlace, sample_at, is_outside, counts_of}
-use Rattle.mp_chunks.specs.Answer.{AreWithin, PlacesRecord, columns_of, stsc_body, sizes_body, offsets_body, sizes, offsets, runs, samples}
+use Rattle.mp_chunks.specs.Samples.{AreWithin, PlacesRecord, columns_of, stsc_body, sizes_body, offsets_body, sizes, offsets, runs, samples}
 
 -- the first run begins at chunk 1, and each one behind those before it
 pub record AreInOrder (runs : List ChunkRun) : Type 0 where
@@ -49,7 +49,7 @@ abbrev pub lacks_runs : Limits → Bool
 lacks_runs limits = nat_lt 0 limits.chunks && (limits.runs == 0)
 
 -- the samples of a chunk: their sizes one behind the other from its place on
-pub record IsChunk (tables : Tables) (chunk : Chunk) : Type 0 where
+pub record IsChunk (tables : Tables) (chunk : ChunkSamples) : Type 0 where
   pub ends : chunk.first + chunk.count ≤ length (sizes tables)
   pub placed : AreInOrder (runs tables) → (i : ℕ) → chunk.first ≤ i → i < chunk.first + chunk.count
       → sample_at (samples tables) i ≡ record { size = slice_index (sizes tables) i; kind = chunk.kind; from = chunk.from + sum (drop chunk.first (take i (sizes tables))) }

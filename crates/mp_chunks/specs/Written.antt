@@ -12,7 +12,7 @@ use Rattle.mp_chunks.specs.declared.push.ChunkHead.{ChunkHead}
 use Rattle.mp_chunks.specs.Chunks.{no_run, offset_len}
 use Rattle.mp_chunks.specs.Places.{SamplePlace}
 use Rattle.mp_chunks.specs.Sizes.{sample_count, size_checks}
-use Rattle.mp_chunks.specs.Answer.{Bodies, chunks_fault_of, outside_fault, samples_by}
+use Rattle.mp_chunks.specs.Samples.{Bodies, chunks_fault_of, outside_fault, samples_by}
 
 -- ---- chunks that stand in a file
 

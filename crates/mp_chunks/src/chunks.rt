@@ -2,7 +2,7 @@
 
 ghost use Rattle.std.specs.Prelude.{◌≡◌, ◌<◌, slice_index};
 ghost use Rattle.mp_boxes.specs.FullBox.{HasRows, row_count};
-ghost use Rattle.mp_chunks.specs.Chunks.{begins, offset_len, offsets_of, run_at, run_fault, run_len, stsc_of};
+ghost use Rattle.mp_chunks.specs.Chunks.{begins, offset_len, chunk_offsets_of, run_at, run_fault, run_len, stsc_of};
 ghost use Rattle.mp_chunks.specs.Walk.{chunks_before};
 
 use mp_boxes::{FIRST_FIELD, FIRST_ROW, u32_in, u64_in};
@@ -30,7 +30,7 @@ pub(crate) fn offset_len(wide: bool) -> usize
 pub(crate) fn offset_in(body: &[u8], wide: bool, before: u32) -> u64
     requires whole { HasRows (offset_len wide) body.now }
     requires inside { before < row_count body.now }
-    ensures { result ≡ slice_index (offsets_of wide body.now) before }
+    ensures { result ≡ slice_index (chunk_offsets_of wide body.now) before }
 {
     if wide {
         u64_in(body, FIRST_ROW + 8 * before as usize)

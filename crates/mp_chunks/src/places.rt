@@ -2,7 +2,7 @@
 
 ghost use Rattle.std.specs.Prelude.{◌≡◌, ℕ, ◌+◌, ◌<◌, ◌≤◌, ◌++◌, [], ◌∷◌, length, pos, nat_lt, IfErr, IfOk, OnOk, None, Ok, Some};
 ghost use Rattle.mp_ports.specs.Gives.{Gives, refusal};
-ghost use Rattle.mp_chunks.specs.Answer.{AreWithin, chunks_fault, columns_of, count_from, placed_from, places_from};
+ghost use Rattle.mp_chunks.specs.Samples.{AreWithin, chunks_fault, columns_of, count_from, placed_from, places_from};
 ghost use Rattle.mp_chunks.specs.Walk.{AreRead, HasPlaced, IsChunk, PlacesOrOutside};
 
 use crate::chunks::{RUN_LEN, offset_len};
@@ -27,16 +27,16 @@ pub struct Places {
 }
 
 impl Model for Places {
-    ghost use Rattle.mp_chunks.specs.Answer.{PlacesRecord};
+    ghost use Rattle.mp_chunks.specs.Samples.{PlacesRecord};
 
     ghost Value = { PlacesRecord };
 
     ghost view = { λ p. record { sizes = p.sizes; kinds = p.kinds; from = p.from.items } };
 }
 
-/// A chunk: `count` samples of one entry behind the `first` samples, from a place of the file on.
+/// The samples of a chunk: `count` of one entry behind the `first` samples, from a place of the file on.
 #[derive(Clone, Copy)]
-pub(crate) struct Chunk {
+pub(crate) struct ChunkSamples {
     pub(crate) first: u32,
     pub(crate) count: u32,
     pub(crate) kind: u32,
@@ -83,7 +83,7 @@ impl Places {
     pub(crate) fn push_chunk(
         &mut self,
         tables: &Tables<'_>,
-        chunk: Chunk,
+        chunk: ChunkSamples,
         limits: Limits,
     ) -> Result<bool, NoMemory>
         requires read { AreRead tables.now limits }

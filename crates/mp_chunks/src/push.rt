@@ -9,7 +9,7 @@ ghost use Rattle.mp_columns.specs.declared.columns.TheConstants.{MOST_ITEMS};
 ghost use Rattle.mp_chunks.specs.Written.{chunk_offsets, is_of, place_field, place_row, run_from, run_row, runs_of, size_of_all, size_row, stsc, stsz};
 
 use crate::chunks::{ChunkRun, RUN_LEN, offset_len};
-use mp_boxes::{Field, begin_box, begin_table, box_len, push_fields, table_len};
+use mp_boxes::{Field, begin_box, begin_table, box_len, push_bytes, push_fields, table_len};
 use mp_columns::{Column, Cursor};
 
 /// The length of a row of `stsz`.
@@ -250,6 +250,6 @@ fn push_copies(size: u32, count: u32, out: &mut Vec<u8>)
     ensures { ArePushed out.old out.new (replicate count (body_bytes (size_row size))) }
 {
     for _before in 0..count {
-        push_fields(out, &[Field::U32(size)]);
+        push_bytes(out, &size.to_be_bytes());
     }
 }

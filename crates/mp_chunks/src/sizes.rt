@@ -3,7 +3,7 @@
 ghost use Rattle.std.specs.Prelude.{◌≡◌, ◌+◌, ◌/◌, ◌<◌, ◌≤◌, drop, length, slice_index, None};
 ghost use Rattle.mp_ports.specs.Checks.{first_code, unless, placed};
 ghost use Rattle.mp_boxes.specs.Child.{IsWithin};
-ghost use Rattle.mp_chunks.specs.Answer.{count_from};
+ghost use Rattle.mp_chunks.specs.Samples.{count_from};
 ghost use Rattle.mp_chunks.specs.Sizes.{halves, sample_count as count_of_samples, stsz_of, stz2_of, stsz_checks, stz2_checks, size_checks, sizes_of};
 
 use crate::tables::Tables;

@@ -1,6 +1,6 @@
 //! Tables of sizes, chunks and places, each answer computed by hand from ISO/IEC 14496-12, 8.7.3 to 8.7.5.
 
-ghost use Rattle.mp_chunks.specs.Answer.{AreWithin};
+ghost use Rattle.mp_chunks.specs.Samples.{AreWithin};
 
 use crate::{Places, Tables, find_places, read_places, sample_count};
 use mp_boxes::Span;

@@ -2,12 +2,12 @@
 
 ghost use Rattle.std.specs.Prelude.{◌≡◌, false, [], ℕ, ◌+◌, ◌<◌, length, OnOk};
 ghost use Rattle.mp_ports.specs.Gives.{Gives, refusal};
-ghost use Rattle.mp_chunks.specs.Answer.{columns_of, placed_from, runs};
+ghost use Rattle.mp_chunks.specs.Samples.{columns_of, placed_from, runs};
 ghost use Rattle.mp_chunks.specs.Chunks.{or_no_run, run_of_chunk};
 ghost use Rattle.mp_chunks.specs.Walk.{AreInOrder, AreRead, HasWalked, IsDone, IsWalked, Walks, lacks_runs};
 
 use crate::chunks::{ChunkRun, chunks_before, offset_in, run_fault, run_in};
-use crate::places::{Chunk, Places};
+use crate::places::{ChunkSamples, Places};
 use crate::tables::Tables;
 use mp_ports::{Bad, Code, Fail, NoMemory};
 use std::alloc::Global;
@@ -82,7 +82,7 @@ impl Walk {
         if self.outside || self.held > limits.samples {
             return Ok(());
         }
-        let chunk = Chunk {
+        let chunk = ChunkSamples {
             first: first as u32,
             count: run.samples,
             kind: run.entry,

@@ -2,3 +2,4 @@ pub mod Reading
 pub mod Shifting
 pub mod Entries
 pub mod EditsAreReadBack
+pub mod EditsAreAnywhere

@@ -1,6 +1,8 @@
 -- The edit box, and the edits of a track (ISO/IEC 14496-12, 8.6.5).
-use Rattle.std.specs.Prelude.{◌≡◌, ℕ, List, [], ◌∷◌, option_map, Option, Some, None, codes}
+use Rattle.std.specs.Prelude.{◌≡◌, ℕ, List, [], ◌∷◌, option_map, Option, Some, None, Ok, codes}
 use Rattle.mp_timeline.specs.declared.segment.Segment.{Segment}
+use Rattle.mp_boxes.specs.Boxes.{Box}
+use Rattle.mp_boxes.specs.Child.{optional_child}
 use Rattle.mp_boxes.specs.Field.{Part, container}
 use Rattle.mp_boxes.specs.Format.{IsFormat, bodies, parts_of}
 use Rattle.mp_boxes.specs.Reading.{value_or}
@@ -33,7 +35,12 @@ abbrev pub segments_in : Option (List Segment) → List Segment
 segments_in None = []
 segments_in (Some edits) = edits
 
--- edits that are written are read, and none are read of a list without entries and where nothing is written
+-- edits that are written are read, and none are read of a list without entries and where nothing is written; an edit list is the same
+-- wherever it stands, and the edits of a track are those of the one edit list in its edit box
 pub record EditsAreRead : Type 0 where
   pub list : IsFormat (λ edits. elst (segments_in edits)) elst_of AreEdits
   pub box : (edits : Option (List Segment)) → AreEdits edits → track_edits (option_map (λ (part : Part). part.body) (edts edits)) ≡ edits
+  pub anywhere : (base other : ℕ) (body : List ℕ) (edits : Option (List Segment)) → elst_of base body ≡ Ok edits → elst_of other body ≡ Ok edits
+  pub listed : (base : ℕ) (body : List ℕ) (list : Box) (edits : Option (List Segment)) → optional_child base body (codes "elst") ≡ Ok (Some list) → elst_of list.place list.body ≡ Ok edits
+      → track_edits (Some body) ≡ edits
+  pub unlisted : (base : ℕ) (body : List ℕ) → optional_child base body (codes "elst") ≡ Ok None → track_edits (Some body) ≡ None

@@ -4,7 +4,7 @@ ghost use Rattle.mp_edits.specs.EditBox.{EditsAreRead};
 
 use mp_boxes::{boxes_have_lengths, parts_are_found, tables_are_read};
 
-/// Edits that are written are read as just these.
+/// Edits that are written are read as just these, and they are the same wherever their boxes stand.
 pub fn edits_are_read()
     ensures { EditsAreRead }
 {

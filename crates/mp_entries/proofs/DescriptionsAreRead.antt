@@ -2,28 +2,21 @@
 use Rattle.std.proofs.Common.{◌≡◌, ℕ, ◌+◌, ◌*◌, ◌^◌, ◌<◌, ◌≤◌, Bool, true, false, List, [], ◌∷◌, ◌++◌, length, map, drop, None, Result, Ok, refl, sym, ap, subst, ◌∙◌, arith}
 use Rattle.std.specs.Prelude.{slice_index_or}
 use Rattle.std.specs.Int.{w32, to_be_bytes}
-use Rattle.std.specs.List.{AllByRecursion, flat_map, list_any}
+use Rattle.std.specs.List.{AllByRecursion, list_any}
 use Rattle.std.proofs.lemmas.Bool.{eq-eqb, le-ltb}
 use Rattle.std.proofs.lemmas.List.{length-append, length-map}
 use Rattle.mp_ports.specs.declared.code.Code.{Code}
 use Rattle.mp_boxes.specs.declared.head.TopHead.{TopHead}
 use Rattle.mp_boxes.specs.Boxes.{Box, IsBytes, IsOnItsOwn, boxes, whole_box}
 use Rattle.mp_boxes.specs.Counted.{counted_fault, is_shorter}
-use Rattle.mp_boxes.specs.Field.{body_bytes, raw}
 use Rattle.mp_boxes.specs.FullBox.{first_row, row_count, table_fault, version}
 use Rattle.mp_boxes.specs.Head.{IsWhole}
 use Rattle.mp_boxes.specs.Laws.{BoxesAreRead, BoxesAreWhole, NumbersAreRead}
+use Rattle.mp_boxes.specs.Push.{joined}
 use Rattle.mp_entries.specs.Description.{AreEntries, description_fault, kept_entries, least_entry, stsd, stsd_of}
 use Rattle.mp_entries.specs.Entry.{IsEntry}
 use Rattle.mp_entries.specs.Kept.{EntriesAreKept}
-
--- the entries behind one another
-abbrev joined : List (List ℕ) → List ℕ
-joined entries = flat_map (λ (text : List ℕ). text) entries
-
-joined_raw : (entries : List (List ℕ)) → body_bytes (map raw entries) ≡ joined entries
-joined_raw [] = refl
-joined_raw (entry ∷ entries) = ap (λ (text : List ℕ). entry ++ text) (joined_raw entries)
+use Rattle.mp_entries.proofs.EntriesArePushed.{joined_raw}
 
 -- ---- the number in front
 

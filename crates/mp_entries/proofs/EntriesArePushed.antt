@@ -23,7 +23,7 @@ pub rows_bytes : (entries : List (List ℕ)) → map body_bytes (map entry_row e
 rows_bytes [] = refl
 rows_bytes (entry ∷ entries) = rw (append-nil entry, rows_bytes entries) refl
 
-joined_raw : (entries : List (List ℕ)) → body_bytes (map raw entries) ≡ joined entries
+pub joined_raw : (entries : List (List ℕ)) → body_bytes (map raw entries) ≡ joined entries
 joined_raw [] = refl
 joined_raw (entry ∷ entries) = ap (λ (text : List ℕ). entry ++ text) (joined_raw entries)
 

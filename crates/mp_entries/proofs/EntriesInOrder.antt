@@ -1,12 +1,17 @@
 -- A walk over sample entries keeps one after another, or stops at the first fault.
-use Rattle.std.proofs.Common.{◌≡◌, ℕ, ◌+◌, false, List, [], ◌∷◌, ◌++◌, Bool, Result, Ok, Err, refl, sym, ap, ◌∙◌, append_assoc, slice_range}
+use Rattle.std.proofs.Common.{◌≡◌, ◌≤◌, ℕ, suc, ◌+◌, false, List, [], ◌∷◌, ◌++◌, Bool, length, Result, Ok, Err, IfOk, refl, sym, ap, ◌∙◌, append_assoc, slice_range, arith}
 use Rattle.std.specs.List.{AllByRecursion}
+use Rattle.std.specs.declared.alloc.Global.{Global}
+use Rattle.std.specs.declared.vec.Vec.{Vec}
 use Rattle.std.proofs.lemmas.List.{append-nil}
 use Rattle.mp_ports.specs.Checks.{◌>>=◌}
 use Rattle.mp_ports.specs.declared.fault.Bad.{Bad}
+use Rattle.mp_ports.specs.declared.fault.Fail.{Fail}
+use Rattle.mp_ports.specs.Gives.{Gives, refusal}
 use Rattle.mp_boxes.specs.declared.head.BoxHead.{BoxHead}
 use Rattle.mp_boxes.specs.Boxes.{AreLeft, Box, IsContainer, boxes, whole_box}
 use Rattle.mp_boxes.specs.Child.{IsFirstOf}
+use Rattle.mp_boxes.specs.Counted.{IsCounted}
 use Rattle.mp_entries.specs.Description.{entries_in, kept_entries}
 use Rattle.mp_entries.specs.Kept.{kept_entry}
 
@@ -65,3 +70,21 @@ all_kept base bytes local at kept k none =
 pub all_more : {A : Type 0} (P : A → Type 0) (items : List A) (item : A) → AllByRecursion P items → P item → AllByRecursion P (items ++ item ∷ [])
 all_more P [] item all one = (one, tt)
 all_more P (first ∷ items) item all one = (all.0, all_more P items item all.1 one)
+
+-- an entry is kept of each box
+kept_len : (local : List Bool) (children : List Box) (kept : List (List ℕ)) → kept_entries local children ≡ Ok kept → length kept ≡ length children
+kept_len local [] kept e = let none : [] ≡ kept = cc in ap length (sym none)
+kept_len local (child ∷ children) kept e = by (kept_entry child.place (whole_box child) local) (kept_entries local children) refl e (kept_len local children)
+  where
+    by : (first : Result (List ℕ) Bad) (rest : Result (List (List ℕ)) Bad) → kept_entries local children ≡ rest → (first >>= λ entry. rest >>= λ others. Ok (entry ∷ others)) ≡ Ok kept
+        → ((others : List (List ℕ)) → kept_entries local children ≡ Ok others → length others ≡ length children) → length kept ≡ length (child ∷ children)
+    by (Ok entry) (Ok others) q e ih = let all : entry ∷ others ≡ kept = cc in ap length (sym all) ∙ ap suc (ih others q)
+    by (Ok entry) (Err bad) q e ih = absurd cc
+    by (Err bad) rest q e ih = absurd cc
+
+pub few_kept : (count least base most : ℕ) (bytes : List ℕ) (local : List Bool) (r : Result (Vec (List ℕ) Global) Fail) → count ≤ most → IsCounted count least base bytes → Gives refusal (λ kept. kept.items) r (entries_in base local bytes)
+    → IfOk r (λ kept. length kept.items ≤ most)
+few_kept count least base most bytes local (Ok kept) few counted e =
+    let all = kept_len local counted.boxes.children kept.items (rw counted.boxes.read at e) in
+    omega (arith, counted.number)
+few_kept count least base most bytes local (Err fail) few counted e = tt

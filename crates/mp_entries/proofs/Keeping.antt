@@ -1,14 +1,12 @@
 -- What is kept and what is written are sample entries.
-use Rattle.std.proofs.Common.{◌≡◌, ℕ, ◌+◌, ◌-◌, ◌^◌, ◌<◌, ◌≤◌, Bool, true, false, List, [], ◌∷◌, ◌++◌, length, get_or, take, drop, Option, Some, None, Result, Ok, Err, IfOk, refl, sym, ap, subst, ◌∙◌, append_assoc, arith}
-use Rattle.std.specs.Prelude.{codes, if◌then◌else◌}
+use Rattle.std.proofs.Common.{◌≡◌, ℕ, ◌+◌, ◌-◌, ◌^◌, ◌<◌, ◌≤◌, Bool, false, List, [], ◌∷◌, ◌++◌, length, get_or, take, drop, None, Result, Ok, Err, IfOk, refl, sym, ap, subst, ◌∙◌, append_assoc, arith}
+use Rattle.std.specs.Prelude.{codes}
 use Rattle.std.specs.Int.{w32, to_be_bytes}
 use Rattle.std.specs.Str.{bytes_eq}
 use Rattle.std.specs.declared.alloc.Global.{Global}
 use Rattle.std.specs.declared.vec.Vec.{Vec}
-use Rattle.std.proofs.lemmas.Bool.{ltb-false}
 use Rattle.std.proofs.lemmas.List.{append-nil, drop_all, length-append, length-take, length-drop, get_or-append-add}
 use Rattle.std.proofs.Math.Seq.{take-add}
-use Rattle.mp_ports.specs.declared.code.Code.{Code}
 use Rattle.mp_boxes.specs.declared.head.TopHead.{TopHead}
 use Rattle.mp_boxes.specs.Boxes.{IsBytes}
 use Rattle.mp_boxes.specs.Number.{u16_at}
@@ -53,16 +51,11 @@ written_is_whole law part plain small =
     ap (λ (t : List ℕ). head_at false (header ++ t)) (sym (append-nil part.body))
     ∙ (law.read false part.kind header part.body [] is ∙ ap (λ (h : TopHead). Ok h) (same_head _ _ refl size (omega arith)))
 
--- a check is passed, and the others
-passed : (test : Bool) (code : Code) (others : Option Code) → (if test then Some code else others) ≡ None → (test ≡ false) × (others ≡ None)
-passed true code others e = absurd cc
-passed false code others e = (refl, e)
-
 entry_room : (bytes : List ℕ) (local : List Bool) (head : TopHead) → entry_fault head.kind head.head bytes local ≡ None → head.head + 8 ≤ length bytes
-entry_room bytes local head fine = ltb-false _ _ (passed _ _ _ fine).0
+entry_room bytes local head fine = grind (arith, fine)
 
 entry_plain : (bytes : List ℕ) (local : List Bool) (head : TopHead) → entry_fault head.kind head.head bytes local ≡ None → is_protected head.kind ≡ false
-entry_plain bytes local head fine = (passed _ _ _ (passed _ _ _ fine).1).0
+entry_plain bytes local head fine = grind (arith, fine)
 
 -- the body of the entry that is kept
 kept_body : ℕ → List ℕ → List ℕ

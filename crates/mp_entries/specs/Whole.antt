@@ -4,7 +4,7 @@ use Rattle.mp_boxes.specs.declared.head.TopHead.{TopHead}
 use Rattle.mp_boxes.specs.Boxes.{IsBytes}
 use Rattle.mp_boxes.specs.Field.{Part, box_bytes}
 use Rattle.mp_boxes.specs.Head.{head_at}
-use Rattle.mp_boxes.specs.Parts.{HasPlainKind}
+use Rattle.mp_boxes.specs.Parts.{HasCompactType}
 
 -- the head of a whole box stays where its body becomes another of the same length
 abbrev pub HeadStays : Type 0
@@ -13,4 +13,4 @@ HeadStays = (text body : List ℕ) (head : TopHead) → IsBytes text → head_at
 
 -- a box that is written is whole, with a header of 8 bytes
 abbrev pub WrittenIsWhole : Type 0
-WrittenIsWhole = (part : Part) → HasPlainKind part → 8 + length part.body < 2 ^ 32 → head_at false (box_bytes part) ≡ Ok (record { kind = part.kind; head = 8; len = 8 + length part.body })
+WrittenIsWhole = (part : Part) → HasCompactType part → 8 + length part.body < 2 ^ 32 → head_at false (box_bytes part) ≡ Ok (record { kind = part.kind; head = 8; len = 8 + length part.body })

@@ -64,6 +64,7 @@ pub fn read_stsd(
 ) -> Result<Vec<EntryBytes>, Fail>
     requires { base + length body.now < 2 ^ 64 }
     ensures kept { Gives refusal (λ entries. entries.items) result (stsd_of place base local.now body.now) }
+    ensures few { IfOk result (λ entries. length entries.items ≤ most_entries) }
     ensures well_formed { IfOk result (λ entries. AllByRecursion IsEntry entries.items) }
 {
     let count = row_count(body, 0, 0, place)?;

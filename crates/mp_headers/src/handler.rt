@@ -4,7 +4,7 @@ ghost use Rattle.std.specs.Prelude.{◌≡◌};
 ghost use Rattle.mp_boxes.specs.Field.{body_bytes, box_bytes};
 ghost use Rattle.mp_boxes.specs.Push.{IsPushed};
 ghost use Rattle.mp_boxes.specs.Table.{HasLen};
-ghost use Rattle.mp_headers.specs.Handler.{hdlr, hdlr_of};
+ghost use Rattle.mp_headers.specs.Handler.{hdlr, hdlr_of, name_of};
 
 use mp_boxes::{FIRST_FIELD, Field, box_len, kind_in, push_box};
 use mp_ports::{Bad, Code};
@@ -13,7 +13,7 @@ const HANDLER_PLACE: usize = FIRST_FIELD + 4;
 
 const NAME_PLACE: usize = HANDLER_PLACE + 4 + 12;
 
-/// The handler in the body of the box `hdlr` at `base`; its name is the body from byte 24 on.
+/// The handler in the body of the box `hdlr` at `base`.
 ///
 /// `TableLength` where the body is shorter, `HintTrack` where the handler is `hint`. Any version is read.
 pub fn read_hdlr(body: &[u8], base: u64) -> Result<[u8; 4], Bad>
@@ -27,6 +27,16 @@ pub fn read_hdlr(body: &[u8], base: u64) -> Result<[u8; 4], Bad>
         return Err(Bad::at(Code::HintTrack, base));
     }
     Ok(handler)
+}
+
+/// The name of the handler in the body of the box `hdlr`: the bytes from 24 on, none where it has no more.
+pub fn name_of(body: &[u8]) -> &[u8]
+    ensures { result.now ≡ name_of body.now }
+{
+    if body.len() < NAME_PLACE {
+        return &[];
+    }
+    &body[NAME_PLACE..]
 }
 
 /// The length of the box `hdlr` of this handler and name.

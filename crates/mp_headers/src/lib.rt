@@ -20,8 +20,9 @@ mod track_header;
 mod version;
 
 pub use file_type::{ftyp_len, push_ftyp};
-pub use handler::{hdlr_len, push_hdlr, read_hdlr};
+pub use handler::{hdlr_len, name_of, push_hdlr, read_hdlr};
 pub use law::headers_are_read;
+pub use matrix::MATRIX_LEN;
 pub use media_header::{Mdhd, mdhd_len, push_mdhd, read_mdhd};
 pub use media_information::{media_header_len, push_media_header};
 pub use movie_header::{Mvhd, mvhd_len, push_mvhd, read_mvhd};

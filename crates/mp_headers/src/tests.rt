@@ -304,9 +304,12 @@ fn handlers(rt: HostRuntime) -> Result<(), TestFail> {
     push_hdlr(b"soun", b"Abc\0", &mut out);
     assert_eq!(rt; out.as_slice(), HANDLER_BYTES.as_slice());
     assert_eq!(rt; read_hdlr(body(&HANDLER_BYTES), PLACE), Ok(*b"soun"));
+    assert_eq!(rt; name_of(body(&HANDLER_BYTES)), b"Abc\0".as_slice());
     // any version, and a name of no bytes
     let mut bytes = [0xEE; 24];
     assert_eq!(rt; read_hdlr(&bytes, PLACE), Ok([0xEE; 4]));
+    assert_eq!(rt; name_of(&bytes), b"".as_slice());
+    assert_eq!(rt; name_of(without_last(&bytes)), b"".as_slice());
     assert_eq!(rt;
         read_hdlr(without_last(&bytes), PLACE),
         refused(Code::TableLength)

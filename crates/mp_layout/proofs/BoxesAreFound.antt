@@ -11,7 +11,7 @@ use Rattle.mp_boxes.specs.Boxes.{Box, body_place, boxes, IsCut}
 use Rattle.mp_boxes.specs.Child.{of_kind}
 use Rattle.mp_boxes.specs.Field.{Part, boxes_bytes, optional}
 use Rattle.mp_boxes.specs.Format.{part_of}
-use Rattle.mp_boxes.specs.Parts.{HasPlainKind, listed}
+use Rattle.mp_boxes.specs.Parts.{HasCompactType, listed}
 use Rattle.mp_movie.specs.Readings.{fault_of}
 use Rattle.mp_boxes.specs.Reading.{value_or}
 use Rattle.mp_movie.specs.Children.{boxes_in, children, has_boxes, one, at_most_one, one_of_two, no_box}
@@ -43,7 +43,7 @@ pub record HasParts (box : Box) (parts : List Part) : Type 0 where
 abbrev pub is_plain : Part → Bool
 is_plain part = eqb (length part.kind) 4 && not (bytes_eq part.kind (codes "uuid"))
 
-pub have_kinds : (parts : List Part) → list_all is_plain parts ≡ true → AllByRecursion HasPlainKind parts
+pub have_kinds : (parts : List Part) → list_all is_plain parts ≡ true → AllByRecursion HasCompactType parts
 have_kinds [] e = tt
 have_kinds (part ∷ parts) e =
     let both = and_parts (is_plain part) (list_all is_plain parts) e in

@@ -10,7 +10,7 @@ use Rattle.mp_headers.specs.MovieHeader.{mvhd}
 use Rattle.mp_headers.specs.TrackHeader.{tkhd}
 use Rattle.mp_times.specs.Law.{TimesAreRead}
 use Rattle.mp_times.specs.Written.{ctts, stss, stts}
-use Rattle.mp_chunks.specs.Answer.{Bodies, chunks_fault_of, outside_fault, samples_by}
+use Rattle.mp_chunks.specs.Samples.{Bodies, chunks_fault_of, outside_fault, samples_by}
 use Rattle.mp_chunks.specs.Sizes.{sample_count, size_checks}
 use Rattle.mp_chunks.specs.Places.{SamplePlace}
 use Rattle.mp_timeline.specs.Movie.{MovieRecord, SampleRecord, TrackRecord}

@@ -18,7 +18,7 @@ use Rattle.mp_columns.specs.declared.columns.TheConstants.{MOST_ITEMS}
 use Rattle.mp_times.specs.Times.{ctts_of, newest_version, offset, per_sample, run_len, sample_count as count_of_rows, stts_of, unfolded}
 use Rattle.mp_times.specs.Sync.{is_sync, stss_fault, stss_of}
 use Rattle.mp_times.specs.Written.{FitOffsets, IsMark, are_signed, ctts, runs_body, stss, stss_body, sync_numbers}
-use Rattle.mp_chunks.specs.Answer.{Bodies, chunks_fault_of, outside_fault, samples_by}
+use Rattle.mp_chunks.specs.Samples.{Bodies, chunks_fault_of, outside_fault, samples_by}
 use Rattle.mp_chunks.specs.Sizes.{sample_count, size_checks}
 use Rattle.mp_timeline.specs.Movie.{SampleRecord, TrackRecord}
 use Rattle.mp_movie.specs.Readings.{fault_of, if_there}

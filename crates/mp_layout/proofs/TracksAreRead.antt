@@ -17,7 +17,7 @@ use Rattle.mp_entries.specs.Reference.{dref}
 use Rattle.mp_timeline.specs.declared.segment.Segment.{Segment}
 use Rattle.mp_timeline.specs.Movie.{SampleRecord, TrackRecord}
 use Rattle.mp_edits.specs.Segments.{IsEditList}
-use Rattle.mp_chunks.specs.Answer.{Bodies}
+use Rattle.mp_chunks.specs.Samples.{Bodies}
 use Rattle.mp_movie.specs.Readings.{fault_of}
 use Rattle.mp_boxes.specs.Reading.{value_or}
 use Rattle.mp_movie.specs.Children.{has_boxes, has_one, one, user_data}

@@ -12,9 +12,9 @@ use Rattle.mp_headers.specs.MovieHeader.{mvhd_from}
 use Rattle.mp_headers.specs.TrackHeader.{tkhd_from}
 use Rattle.mp_headers.specs.MediaHeader.{mdhd_from}
 use Rattle.mp_chunks.specs.Sizes.{stsz_of, stz2_of}
-use Rattle.mp_chunks.specs.Chunks.{offsets_of, stsc_of, run_fault, runs_fault, run_of_chunk, runs_of_chunks}
+use Rattle.mp_chunks.specs.Chunks.{chunk_offsets_of, stsc_of, run_fault, runs_fault, run_of_chunk, runs_of_chunks}
 use Rattle.mp_chunks.specs.Places.{chunk_of, sample_of as placed_sample, samples_of as placed_samples}
-use Rattle.mp_chunks.specs.Answer.{map_fault}
+use Rattle.mp_chunks.specs.Samples.{map_fault}
 use Rattle.mp_timeline.specs.declared.segment.Segment.{Segment}
 use Rattle.mp_timeline.specs.declared.segment.Segment.TheVariants.{Empty, Media}
 use Rattle.mp_timeline.specs.Movie.{MovieRecord}
@@ -32,11 +32,11 @@ use Rattle.mp_movie.proofs.OtherFile.{other_file, other_movie}
 
 -- the file as this program writes it, and one in other spellings
 example_is_read : present example_file ≡ Some example_movie
-unfolding u16_at u32_at u64_at kind_at next_bytes next_u16 next_u32 next_u64 next_time mvhd_from tkhd_from mdhd_from walk rows_of table_fault stsz_of stz2_of offsets_of stsc_of run_fault runs_fault run_of_chunk runs_of_chunks chunk_of placed_sample placed_samples map_fault children one at_most_one one_of_two user_data boxes_of dref_of stsd_of local_references references_fault entries_fault entries_of table_of samples_of counts_fault places_fault edits_of edits_fault track_of tables_fault track_fault tracks_fault top_boxes one_moov movie_fault first_fault movie_of present example_file example_movie other_file other_movie two_tracks with_edits with_byte edited file_with
+unfolding u16_at u32_at u64_at kind_at next_bytes next_u16 next_u32 next_u64 next_time mvhd_from tkhd_from mdhd_from walk rows_of table_fault stsz_of stz2_of chunk_offsets_of stsc_of run_fault runs_fault run_of_chunk runs_of_chunks chunk_of placed_sample placed_samples map_fault children one at_most_one one_of_two user_data boxes_of dref_of stsd_of local_references references_fault entries_fault entries_of table_of samples_of counts_fault places_fault edits_of edits_fault track_of tables_fault track_fault tracks_fault top_boxes one_moov movie_fault first_fault movie_of present example_file example_movie other_file other_movie two_tracks with_edits with_byte edited file_with
 example_is_read = refl
 
 other_is_read : present other_file ≡ Some other_movie
-unfolding u16_at u32_at u64_at kind_at next_bytes next_u16 next_u32 next_u64 next_time mvhd_from tkhd_from mdhd_from walk rows_of table_fault stsz_of stz2_of offsets_of stsc_of run_fault runs_fault run_of_chunk runs_of_chunks chunk_of placed_sample placed_samples map_fault children one at_most_one one_of_two user_data boxes_of dref_of stsd_of local_references references_fault entries_fault entries_of table_of samples_of counts_fault places_fault edits_of edits_fault track_of tables_fault track_fault tracks_fault top_boxes one_moov movie_fault first_fault movie_of present example_file example_movie other_file other_movie two_tracks with_edits with_byte edited file_with
+unfolding u16_at u32_at u64_at kind_at next_bytes next_u16 next_u32 next_u64 next_time mvhd_from tkhd_from mdhd_from walk rows_of table_fault stsz_of stz2_of chunk_offsets_of stsc_of run_fault runs_fault run_of_chunk runs_of_chunks chunk_of placed_sample placed_samples map_fault children one at_most_one one_of_two user_data boxes_of dref_of stsd_of local_references references_fault entries_fault entries_of table_of samples_of counts_fault places_fault edits_of edits_fault track_of tables_fault track_fault tracks_fault top_boxes one_moov movie_fault first_fault movie_of present example_file example_movie other_file other_movie two_tracks with_edits with_byte edited file_with
 other_is_read = refl
 
 abbrev numbers : MovieRecord → List ℕ
@@ -68,7 +68,7 @@ record AreOtherMovies : Type 0 where
   duration : option_map sample_durations (present (with_byte 499 1)) ≡ Some (1025 ∷ [])
 
 other_movies : AreOtherMovies
-unfolding u16_at u32_at u64_at kind_at next_bytes next_u16 next_u32 next_u64 next_time mvhd_from tkhd_from mdhd_from walk rows_of table_fault stsz_of stz2_of offsets_of stsc_of run_fault runs_fault run_of_chunk runs_of_chunks chunk_of placed_sample placed_samples map_fault children one at_most_one one_of_two user_data boxes_of dref_of stsd_of local_references references_fault entries_fault entries_of table_of samples_of counts_fault places_fault edits_of edits_fault track_of tables_fault track_fault tracks_fault top_boxes one_moov movie_fault first_fault movie_of present example_file example_movie other_file other_movie two_tracks with_edits with_byte edited file_with
+unfolding u16_at u32_at u64_at kind_at next_bytes next_u16 next_u32 next_u64 next_time mvhd_from tkhd_from mdhd_from walk rows_of table_fault stsz_of stz2_of chunk_offsets_of stsc_of run_fault runs_fault run_of_chunk runs_of_chunks chunk_of placed_sample placed_samples map_fault children one at_most_one one_of_two user_data boxes_of dref_of stsd_of local_references references_fault entries_fault entries_of table_of samples_of counts_fault places_fault edits_of edits_fault track_of tables_fault track_fault tracks_fault top_boxes one_moov movie_fault first_fault movie_of present example_file example_movie other_file other_movie two_tracks with_edits with_byte edited file_with
 other_movies = record {
   tracks = refl;
   no_track = refl;
@@ -127,7 +127,7 @@ record AreFaults : Type 0 where
   edit_rate : first_fault (edited 185 2) ≡ Some (bad_at EditRate 160)
 
 faults : AreFaults
-unfolding u16_at u32_at u64_at kind_at next_bytes next_u16 next_u32 next_u64 next_time mvhd_from tkhd_from mdhd_from walk rows_of table_fault stsz_of stz2_of offsets_of stsc_of run_fault runs_fault run_of_chunk runs_of_chunks chunk_of placed_sample placed_samples map_fault children one at_most_one one_of_two user_data boxes_of dref_of stsd_of local_references references_fault entries_fault entries_of table_of samples_of counts_fault places_fault edits_of edits_fault track_of tables_fault track_fault tracks_fault top_boxes one_moov movie_fault first_fault movie_of present example_file example_movie other_file other_movie two_tracks with_edits with_byte edited file_with
+unfolding u16_at u32_at u64_at kind_at next_bytes next_u16 next_u32 next_u64 next_time mvhd_from tkhd_from mdhd_from walk rows_of table_fault stsz_of stz2_of chunk_offsets_of stsc_of run_fault runs_fault run_of_chunk runs_of_chunks chunk_of placed_sample placed_samples map_fault children one at_most_one one_of_two user_data boxes_of dref_of stsd_of local_references references_fault entries_fault entries_of table_of samples_of counts_fault places_fault edits_of edits_fault track_of tables_fault track_fault tracks_fault top_boxes one_moov movie_fault first_fault movie_of present example_file example_movie other_file other_movie two_tracks with_edits with_byte edited file_with
 faults = record {
   container = refl;
   missing = refl;

@@ -13,7 +13,7 @@ use Rattle.mp_times.specs.Times.{stts_of, ctts_of, unfolded, decode_time, compos
 use Rattle.mp_times.specs.Sync.{stss_of, stss_fault}
 use Rattle.mp_chunks.specs.Sizes.{sample_count, size_checks}
 use Rattle.mp_chunks.specs.Places.{SamplePlace, sample_at}
-use Rattle.mp_chunks.specs.Answer.{Bodies, chunks_fault_of, outside_fault, samples_by}
+use Rattle.mp_chunks.specs.Samples.{Bodies, chunks_fault_of, outside_fault, samples_by}
 use Rattle.mp_timeline.specs.Movie.{SampleRecord}
 use Rattle.mp_movie.specs.Readings.{fault_of, if_there}
 use Rattle.mp_movie.specs.TrackBoxes.{TrackBoxes}

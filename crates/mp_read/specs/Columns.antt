@@ -6,7 +6,7 @@ use Rattle.mp_boxes.specs.Reading.{value_or}
 use Rattle.mp_boxes.specs.Boxes.{Box}
 use Rattle.mp_times.specs.Times.{stts_of}
 use Rattle.mp_times.specs.Sync.{stss_fault}
-use Rattle.mp_chunks.specs.Answer.{PlacesRecord, columns_of, samples_by}
+use Rattle.mp_chunks.specs.Samples.{PlacesRecord, columns_of, samples_by}
 use Rattle.mp_movie.specs.Readings.{if_there}
 use Rattle.mp_movie.specs.TrackBoxes.{TrackBoxes}
 use Rattle.mp_movie.specs.SampleTable.{bodies_in, composition_offsets_of, count_in, sync_marks_of}

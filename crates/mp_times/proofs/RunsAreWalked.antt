@@ -23,12 +23,16 @@ list_all-copies test (suc n) x ys = ap (λ (b : Bool). test x && b) (list_all-co
     by true = refl
     by false = refl
 
-counted : (n : ℕ) → 0 < n → n ≡ suc (n - 1)
-counted n some = omega arith
+-- the items of a run, its first apart
+first_apart : (xs : List ℤ) (from to : ℕ) (run : Run) → IsLongestRun xs from to run → drop from xs ≡ replicate (suc (run.count - 1)) run.value ++ drop to xs
+first_apart xs from to run is =
+    let some = is.some in
+    let count : run.count ≡ suc (run.count - 1) = omega arith in
+    is.equal ∙ ap (λ (k : ℕ). replicate k run.value ++ drop to xs) count
 
 list_all-run : (test : ℤ → Bool) (xs : List ℤ) (from to : ℕ) (run : Run) → IsLongestRun xs from to run → list_all test (drop from xs) ≡ (test run.value && list_all test (drop to xs))
 list_all-run test xs from to run is =
-    ap (list_all test) (is.equal ∙ ap (λ (k : ℕ). replicate k run.value ++ drop to xs) (counted run.count is.some)) ∙ list_all-copies test (run.count - 1) run.value (drop to xs)
+    ap (list_all test) (first_apart xs from to run is) ∙ list_all-copies test (run.count - 1) run.value (drop to xs)
 
 -- what holds of each item holds of the items of a run
 pub run_meets : (P : ℤ → Type 0) (xs : List ℤ) (from to : ℕ) (run : Run) → All P xs → IsLongestRun xs from to run → P run.value
@@ -36,7 +40,7 @@ run_meets P xs from to run all is =
     let some = is.some in
     let inside = is.inside in
     let end = is.end in
-    let front : get_or (drop from xs) 0 (pos 0) ≡ run.value = ap (λ (ys : List ℤ). get_or ys 0 (pos 0)) (is.equal ∙ ap (λ (k : ℕ). replicate k run.value ++ drop to xs) (counted run.count is.some)) in
+    let front : get_or (drop from xs) 0 (pos 0) ≡ run.value = ap (λ (ys : List ℤ). get_or ys 0 (pos 0)) (first_apart xs from to run is) in
     let here : get_or xs from (pos 0) ≡ run.value = ap (λ (i : ℕ). get_or xs i (pos 0)) (omega arith) ∙ (sym (get_or-drop from xs 0 (pos 0)) ∙ front) in
     subst P here (all from (pos 0) (omega arith))
 

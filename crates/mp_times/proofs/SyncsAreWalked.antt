@@ -3,7 +3,6 @@ use Rattle.std.proofs.Common.{◌≡◌, ℕ, zero, suc, ◌+◌, ◌-◌, ◌<�
 use Rattle.std.specs.List.{range_with_len}
 use Rattle.std.proofs.lemmas.Bool.Decides.{Decides-int_eq}
 use Rattle.std.proofs.lemmas.List.{drop_all}
-use Rattle.std.specs.Ordering.{int_eq}
 use Rattle.std.specs.declared.alloc.Global.{Global}
 use Rattle.std.specs.declared.vec.Vec.{Vec}
 use Rattle.mp_boxes.specs.Field.{body_bytes}
@@ -12,9 +11,6 @@ use Rattle.mp_columns.specs.declared.run.Run.{Run}
 use Rattle.mp_columns.specs.Runs.{IsLongestRun}
 use Rattle.mp_times.specs.Sync.{is_sync}
 use Rattle.mp_times.specs.Written.{sync_numbers, sync_row}
-
-int_eq-other : (x y : ℤ) → (x ≡ y → ⊥) → int_eq x y ≡ false
-int_eq-other x y ne = search (rules, Decides-int_eq x y)
 
 -- equal marks, and what follows them
 sync_copies : (n number : ℕ) (ys : List ℤ) → sync_numbers number (replicate n (pos 1) ++ ys) ≡ range_with_len number n ++ sync_numbers (number + n) ys
@@ -37,7 +33,7 @@ sync_run xs from to run is e =
 pub other_run : (xs : List ℤ) (from to : ℕ) (run : Run) → IsLongestRun xs from to run → (run.value ≡ pos 1 → ⊥) → sync_numbers (from + 1) (drop from xs) ≡ sync_numbers (to + 1) (drop to xs)
 other_run xs from to run is ne =
     ap (sync_numbers (from + 1)) is.equal
-    ∙ (other_copies run.count (from + 1) run.value (drop to xs) (int_eq-other run.value (pos 1) ne) ∙ ap (λ (k : ℕ). sync_numbers k (drop to xs)) (behind from to run.count is.end))
+    ∙ (other_copies run.count (from + 1) run.value (drop to xs) (search (rules, Decides-int_eq run.value (pos 1))) ∙ ap (λ (k : ℕ). sync_numbers k (drop to xs)) (behind from to run.count is.end))
 
 none_left : (xs : List ℤ) (from : ℕ) → from ≡ length xs → sync_numbers (from + 1) (drop from xs) ≡ []
 none_left xs from e = rw (drop_all from xs (omega arith)) refl

@@ -1,6 +1,6 @@
 use Rattle.std.proofs.Common.{ℕ, List, ◌≡◌, ◌<◌, arith, ap, sym, ◌∙◌, slice_index, length}
 use Rattle.mp_chunks.specs.Sizes.{sample_count, sizes_of}
-use Rattle.mp_chunks.specs.Answer.{sizes, sizes_body}
+use Rattle.mp_chunks.specs.Samples.{sizes, sizes_body}
 use Rattle.mp_chunks.proofs.SamplesArePlaced.{part_more, sizes_len}
 use Rattle.mp_chunks.proofs.ChunksAreWalked.{outside_found, sample_more}
 use Rattle.mp_chunks.proofs.places.Places.push_chunk.Goals as goal

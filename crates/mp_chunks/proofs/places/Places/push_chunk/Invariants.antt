@@ -1,5 +1,5 @@
 use Rattle.std.proofs.Common.{◌≡◌, ◌+◌, drop, take, sum}
-use Rattle.mp_chunks.specs.Answer.{sizes}
+use Rattle.mp_chunks.specs.Samples.{sizes}
 use Rattle.mp_chunks.specs.Walk.{HasPlaced}
 use Rattle.mp_chunks.proofs.places.Places.push_chunk.Given as goal
 

@@ -1,7 +1,7 @@
 use Rattle.std.proofs.Common.{ℕ, List, arith, ap, ◌∙◌, slice_index}
 use Rattle.mp_boxes.specs.FullBox.{row_count}
-use Rattle.mp_chunks.specs.Chunks.{offsets_of}
-use Rattle.mp_chunks.specs.Answer.{offsets_body}
+use Rattle.mp_chunks.specs.Chunks.{chunk_offsets_of}
+use Rattle.mp_chunks.specs.Samples.{offsets_body}
 use Rattle.mp_chunks.proofs.TablesAreRead.{offsets_len}
 use Rattle.mp_chunks.proofs.ChunksAreWalked.{chunk_more, next_chunk, stays_outside}
 use Rattle.mp_chunks.proofs.walk.Walk.place_chunk.Goals as goal
@@ -28,7 +28,7 @@ push_chunk-requires-clause-chunk c =
     let t = c.args.tables.now in
     let old = c.args.self.now in
     next_chunk t c.args.limits old.chunks old.held c.args.run c.offset_in.result c.requires.read c.requires.more c.requires.walked.held c.requires.run (omega (arith, c.if-self-limits.false, c.from.ensures))
-    (c.offset_in.ensures ∙ ap (λ (body : List ℕ). slice_index (offsets_of t.wide body) old.chunks) c.body.ensures)
+    (c.offset_in.ensures ∙ ap (λ (body : List ℕ). slice_index (chunk_offsets_of t.wide body) old.chunks) c.body.ensures)
 
 pub returns-clause-walked : goal.returns-clause-walked
 returns-clause-walked c =

@@ -1,7 +1,7 @@
 use Rattle.std.proofs.Common.{List, arith, ap, sym, ◌+◌, ◌∙◌, length}
 use Rattle.mp_chunks.specs.declared.chunks.ChunkRun.{ChunkRun}
 use Rattle.mp_chunks.specs.Chunks.{or_no_run, run_at, stsc_of}
-use Rattle.mp_chunks.specs.Answer.{runs}
+use Rattle.mp_chunks.specs.Samples.{runs}
 use Rattle.mp_chunks.specs.Walk.{chunks_before}
 use Rattle.mp_chunks.proofs.TablesAreRead.{stsc_len}
 use Rattle.mp_chunks.proofs.RunsAreFound.{before_within, run_found, run_holds}

@@ -1,5 +1,5 @@
 use Rattle.std.proofs.Common.{◌≤◌, ◌+◌, ◌-◌}
-use Rattle.mp_chunks.specs.Answer.{runs}
+use Rattle.mp_chunks.specs.Samples.{runs}
 use Rattle.mp_chunks.specs.Walk.{AreInOrder, IsWalked, chunks_before}
 use Rattle.mp_chunks.proofs.walk.Walk.place_run.Given as goal
 

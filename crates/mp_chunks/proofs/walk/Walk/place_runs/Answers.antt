@@ -4,7 +4,7 @@ use Rattle.mp_ports.specs.declared.fault.Bad.{Bad}
 use Rattle.mp_ports.specs.Checks.{first_some, fault_at}
 use Rattle.mp_chunks.specs.declared.chunks.ChunkRun.{ChunkRun}
 use Rattle.mp_chunks.specs.Chunks.{run_fault, runs_fault, stsc_of}
-use Rattle.mp_chunks.specs.Answer.{runs}
+use Rattle.mp_chunks.specs.Samples.{runs}
 use Rattle.mp_chunks.specs.Walk.{HasWalked}
 use Rattle.mp_chunks.proofs.TablesAreRead.{stsc_len}
 use Rattle.mp_chunks.proofs.FirstOfRows.{goes_on, stops, ends}

@@ -1,6 +1,6 @@
 use Rattle.std.proofs.Common.{◌≡◌}
 use Rattle.mp_chunks.specs.Chunks.{run_fault, runs_fault}
-use Rattle.mp_chunks.specs.Answer.{runs}
+use Rattle.mp_chunks.specs.Samples.{runs}
 use Rattle.mp_chunks.specs.Walk.{HasWalked}
 use Rattle.mp_chunks.proofs.FirstOfRows.{faults_from}
 use Rattle.mp_chunks.proofs.walk.Walk.place_runs.Given as goal

@@ -1,4 +1,4 @@
--- What is read from a track's tables of sizes, chunks and places, and their faults in order.
+-- The samples by the tables of sizes, chunks and places, and the faults of these in order (ISO/IEC 14496-12, 8.7.3 to 8.7.5).
 use Rattle.std.specs.Prelude.{ℕ, Bool, ◌==◌, ◌&&◌, not, nat_lt, List, [], ◌∷◌, length, map, sum, Option, Some, None, Result, ℤ, pos, if◌then◌else◌}
 use Rattle.std.specs.List.{list_any}
 use Rattle.mp_ports.specs.declared.code.Code.{Code}
@@ -11,7 +11,7 @@ use Rattle.mp_chunks.specs.declared.tables.Tables.{Tables}
 use Rattle.mp_boxes.specs.FullBox.{table_fault}
 use Rattle.mp_chunks.specs.Table.{body_of}
 use Rattle.mp_chunks.specs.Sizes.{sample_count, sizes_of, size_checks}
-use Rattle.mp_chunks.specs.Chunks.{offset_len, offsets_of, run_len, stsc_of, runs_fault, runs_of_chunks}
+use Rattle.mp_chunks.specs.Chunks.{offset_len, chunk_offsets_of, run_len, stsc_of, runs_fault, runs_of_chunks}
 use Rattle.mp_chunks.specs.Places.{SamplePlace, counts_of, samples_of, is_outside}
 
 -- each span lies in the bytes of `moov`
@@ -31,7 +31,7 @@ pub record Bodies : Type 0 where
 -- each sample by these
 abbrev pub samples_by : Bodies → List SamplePlace
 samples_by bodies =
-    let offsets = offsets_of bodies.wide bodies.offsets in
+    let offsets = chunk_offsets_of bodies.wide bodies.offsets in
     samples_of (runs_of_chunks (stsc_of bodies.stsc) (length offsets)) offsets (sizes_of bodies.compact bodies.sizes)
 
 -- the bodies by their spans
@@ -54,7 +54,7 @@ sizes tables = sizes_of tables.compact (sizes_body tables)
 
 -- the place of each chunk
 abbrev pub offsets : Tables → List ℕ
-offsets tables = offsets_of tables.wide (offsets_body tables)
+offsets tables = chunk_offsets_of tables.wide (offsets_body tables)
 
 -- the runs of chunks
 abbrev pub runs : Tables → List ChunkRun
@@ -92,7 +92,7 @@ chunks_fault_of entries stsc_place offsets_place bodies =
     (fault_at stsc_place (table_fault 0 run_len bodies.stsc)
     ∷ fault_at offsets_place (table_fault 0 (offset_len bodies.wide) bodies.offsets)
     ∷ fault_at stsc_place (runs_fault entries runs)
-    ∷ fault_at stsc_place (map_fault runs (length (offsets_of bodies.wide bodies.offsets)) (length (sizes_of bodies.compact bodies.sizes)))
+    ∷ fault_at stsc_place (map_fault runs (length (chunk_offsets_of bodies.wide bodies.offsets)) (length (sizes_of bodies.compact bodies.sizes)))
     ∷ [])
 
 -- the first fault of the chunks and places, where there are so many entries and the file has so many bytes, and these are the places of
