@@ -1,3 +1,11 @@
 pub mod Mapping
 pub mod LongestRuns
 pub mod WholeDivisors
+pub mod Searching
+pub mod CutAtRuns
+pub mod Summing
+pub mod ValuesOfRuns
+pub mod RunsAreKept
+pub mod ChangesOfSums
+pub mod LastOfRuns
+pub mod ChangesOfRuns

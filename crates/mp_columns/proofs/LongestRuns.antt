@@ -1,24 +1,19 @@
 -- A run is longest where another item follows, or none, and longest runs follow one another.
-use Rattle.std.proofs.Common.{◌≡◌, ℕ, zero, suc, ◌+◌, ◌-◌, ◌<◌, ◌≤◌, Bool, true, false, cond, List, [], ◌∷◌, ◌++◌, length, replicate, drop, get_or, ℤ, pos, w64, of_z, to_z, refl, sym, ap, ◌∙◌, append_assoc, arith, rules}
+use Rattle.std.proofs.Common.{◌≡◌, ℕ, zero, suc, ◌+◌, ◌-◌, ◌<◌, ◌≤◌, Bool, true, false, cond, List, [], ◌∷◌, ◌++◌, length, replicate, take, drop, get_or, ℤ, pos, w64, of_z, to_z, refl, sym, ap, ◌∙◌, append_assoc, arith, rules}
 use Rattle.std.specs.Prelude.{FitsSigned}
 use Rattle.std.specs.Ordering.{int_eq}
 use Rattle.std.proofs.lemmas.Bool.Decides.{Decides-int_eq}
 use Rattle.std.proofs.lemmas.Int.{to_z-of_z}
-use Rattle.std.proofs.lemmas.List.{drop_more, replicate_more}
+use Rattle.std.proofs.lemmas.List.{drop_more, length-replicate, replicate_more, take_at}
+use Rattle.std.proofs.Math.Seq.{take-add}
 use Rattle.mp_columns.specs.declared.run.Run.{Run}
 use Rattle.mp_columns.specs.Stretch.{Stretch, items_of, in_front}
 use Rattle.mp_columns.specs.Runs.{IsLongestRun, runs, stretch_of}
 
-int_eq-same : (x : ℤ) → int_eq x x ≡ true
-int_eq-same x = search (rules, Decides-int_eq x x)
-
-int_eq-other : (x y : ℤ) → (x ≡ y → ⊥) → int_eq x y ≡ false
-int_eq-other x y ne = search (rules, Decides-int_eq x y)
-
 -- another item follows, or none
-abbrev Differs : ℤ → List ℤ → Type 0
+abbrev pub Differs : ℤ → List ℤ → Type 0
 Differs x [] = Unit {0}
-Differs x (y ∷ ys) = int_eq x y ≡ false
+Differs x (y ∷ ys) = x ≡ y → ⊥
 
 -- the first stretch begins with the first item
 first_stretch : (y : ℤ) (ys : List ℤ) → (others : List ℤ) × (rest : List (Stretch ℤ)) × (runs (y ∷ ys) ≡ record { first = y; others = others } ∷ rest)
@@ -32,26 +27,35 @@ first_stretch y ys = go (runs ys)
         by true = (items_of next, rest, refl)
         by false = ([], next ∷ rest, refl)
 
-runs-copies : (n : ℕ) (x : ℤ) (ys : List ℤ) → Differs x ys → runs (replicate (suc n) x ++ ys) ≡ record { first = x; others = replicate n x } ∷ runs ys
+pub runs-copies : (n : ℕ) (x : ℤ) (ys : List ℤ) → Differs x ys → runs (replicate (suc n) x ++ ys) ≡ record { first = x; others = replicate n x } ∷ runs ys
 runs-copies zero x [] other = refl
 runs-copies zero x (y ∷ ys) other =
     let f = first_stretch y ys in
-    ap (in_front int_eq x) f.2 ∙ (rw other refl ∙ ap (λ (found : List (Stretch ℤ)). record { first = x; others = [] } ∷ found) (sym f.2))
-runs-copies (suc n) x ys other = ap (in_front int_eq x) (runs-copies n x ys other) ∙ rw (int_eq-same x) refl
+    let told : int_eq x y ≡ false = search (rules, Decides-int_eq x y) in
+    ap (in_front int_eq x) f.2 ∙ (rw told refl ∙ ap (λ (found : List (Stretch ℤ)). record { first = x; others = [] } ∷ found) (sym f.2))
+runs-copies (suc n) x ys other =
+    let same : int_eq x x ≡ true = search (rules, Decides-int_eq x x) in
+    ap (in_front int_eq x) (runs-copies n x ys other) ∙ rw same refl
 
 other_follows : (xs : List ℤ) (to : ℕ) (x : ℤ) → (to < length xs → get_or xs to (pos 0) ≡ x → ⊥) → Differs x (drop to xs)
 other_follows [] zero x ne = tt
 other_follows [] (suc to) x ne = tt
-other_follows (y ∷ ys) zero x ne = int_eq-other x y (λ e. ne (omega arith) (sym e))
+other_follows (y ∷ ys) zero x ne = λ e. ne (omega arith) (sym e)
 other_follows (y ∷ ys) (suc to) x ne = other_follows ys to x (λ lt. ne (omega (arith, lt)))
-
-counted : (n : ℕ) → 0 < n → n ≡ suc (n - 1)
-counted n some = omega arith
 
 -- it is the first of the longest runs of what is left
 pub longest_is_first : (xs : List ℤ) (from to : ℕ) (run : Run) → IsLongestRun xs from to run → runs (drop from xs) ≡ stretch_of run ∷ runs (drop to xs)
 longest_is_first xs from to run is =
-    ap runs (is.equal ∙ ap (λ (k : ℕ). replicate k run.value ++ drop to xs) (counted run.count is.some)) ∙ runs-copies (run.count - 1) run.value (drop to xs) (other_follows xs to run.value is.other)
+    let some = is.some in
+    let count : run.count ≡ suc (run.count - 1) = omega arith in
+    ap runs (is.equal ∙ ap (λ (k : ℕ). replicate k run.value ++ drop to xs) count) ∙ runs-copies (run.count - 1) run.value (drop to xs) (other_follows xs to run.value is.other)
+
+-- the items up to its end are those before it, and its own
+pub run_taken : (xs : List ℤ) (from to : ℕ) (run : Run) → IsLongestRun xs from to run → take to xs ≡ take from xs ++ replicate run.count run.value
+run_taken xs from to run is =
+    ap (λ (n : ℕ). take n xs) is.end
+    ∙ (take-add from run.count xs
+    ∙ ap (λ (ys : List ℤ). take from xs ++ ys) (ap (take run.count) is.equal ∙ take_at (replicate run.count run.value) (drop to xs) run.count (length-replicate run.count run.value)))
 
 -- ---- the walk over one run
 

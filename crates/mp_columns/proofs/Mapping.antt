@@ -1,7 +1,9 @@
 -- A walk that replaces each item by a function of it.
 use Rattle.std.proofs.Common.{◌≡◌, ℕ, suc, ◌+◌, ◌<◌, ◌≤◌, FitsSigned, w64, to_z, of_z, List, [], ◌∷◌, ◌++◌, length, take, drop, map, get_or, set, All, ℤ, pos, ◌+ℤ◌, ◌*ℤ◌, int_div, int_rem, sym, ap, ◌∙◌, append_assoc, arith, refl}
+use Rattle.std.specs.Prelude.{Vec}
+use Rattle.std.specs.Vec.{with_items}
 use Rattle.std.proofs.lemmas.Int.{quot-rem, quot_is, quot_fits, to_z-of_z, ints}
-use Rattle.std.proofs.lemmas.List.{map_more, drop_more, set_at, length-map, length-take, get_or_at, take_all, drop_all, append-nil}
+use Rattle.std.proofs.lemmas.List.{map_more, drop_more, set_at, length-map, length-take, with_items_is, get_or_at, take_all, drop_all, append-nil}
 
 module _ {X : Type 0} (f : X → X) (xs : List X) (i : ℕ) (d : X) (lt : i < length xs) where
   front : length (map f (take i xs)) ≡ i
@@ -28,8 +30,12 @@ module _ {X : Type 0} (f : X → X) (xs : List X) (i : ℕ) (d : X) (lt : i < le
 pub all_done : {X : Type 0} (f : X → X) (xs now : List X) (i : ℕ) → now ≡ map f (take i xs) ++ drop i xs → length xs ≤ i → now ≡ map f xs
 all_done f xs now i e past = e ∙ rw (take_all i xs past, drop_all i xs past) (append-nil (map f xs))
 
+-- what stands in a vector when its elements were replaced
+pub written_back : {X Z : Type 0} (f : X → X) (old : Vec X Z) (was now : List X) → was ≡ old.items → now ≡ map f was → (with_items old now).items ≡ map f old.items
+written_back f old was now same is = with_items_is old now (omega (arith, ap length is, length-map was f, ap length same, old.ok.0)) ∙ (is ∙ ap (map f) same)
+
 -- an exact quotient, times the divisor, is the number
-exact_quotient : (x d : ℤ) → int_rem x d ≡ pos 0 → int_div x d *ℤ d ≡ x
+pub exact_quotient : (x d : ℤ) → int_rem x d ≡ pos 0 → int_div x d *ℤ d ≡ x
 exact_quotient x d e = let whole = quot-rem x d in omega (arith, ints)
 
 -- so exact quotients, times the divisor, are the list

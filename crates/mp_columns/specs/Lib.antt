@@ -1,3 +1,4 @@
 pub mod Numbers
 pub mod Stretch
 pub mod Runs
+pub mod Kept

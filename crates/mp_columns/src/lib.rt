@@ -6,8 +6,13 @@
 #![tactic(auto)]
 
 mod columns;
+mod kept;
 mod list;
 mod run;
+mod run_column;
+mod search;
+mod steps;
+mod sums;
 #[cfg(test)]
 mod tests;
 mod walks;
@@ -15,3 +20,5 @@ mod walks;
 pub use columns::{Column, MOST_ITEMS};
 pub use list::{Col, ListColumn};
 pub use run::{Cursor, Run};
+pub use run_column::RunColumn;
+pub use steps::Steps;

@@ -14,9 +14,12 @@ pub struct Run {
 }
 
 /// A place in a column, from which its runs are read: how many items stand before it.
+///
+/// It remembers by which run a column came to it, so that the next one isn't looked for.
 #[derive(Drop)]
 pub struct Cursor {
     place: u32,
+    run: u32,
 }
 
 impl Model for Cursor {
@@ -32,7 +35,19 @@ impl Cursor {
     pub fn at(place: u32) -> Cursor
         ensures { result ≡ place }
     {
-        Cursor { place }
+        Cursor { place, run: 0 }
+    }
+
+    /// Before item `place`, where the run before which there are `run` is likely to begin.
+    pub(crate) fn near(place: u32, run: u32) -> Cursor
+        ensures { result ≡ place }
+    {
+        Cursor { place, run }
+    }
+
+    /// The run that is likely to begin there.
+    pub(crate) fn run(&self) -> u32 {
+        self.run
     }
 
     /// How many items stand before it.

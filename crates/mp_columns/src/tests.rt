@@ -1,12 +1,14 @@
-//! Each call at a concrete type, through the bound. The answers were computed by hand.
+//! Each call at both columns, through the bound. The answers were computed by hand.
 
-ghost use Rattle.std.specs.Prelude.{◌≡◌, ◌≤◌, All, FitsSigned, IfOk, IsTrue, length, pos, ◌+ℤ◌, ◌*ℤ◌, int_rem};
+ghost use Rattle.std.specs.Prelude.{◌≡◌, ◌<◌, ◌≤◌, All, FitsSigned, IfOk, IsTrue, length, pos, ◌+ℤ◌, ◌*ℤ◌, int_rem};
 ghost use Rattle.std.specs.Int.{w64};
 
-use crate::{Col, Column, Cursor, MOST_ITEMS, Run};
+use crate::{Column, Cursor, ListColumn, MOST_ITEMS, Run, RunColumn, Steps};
 use mp_ports::NoMemory;
 use std::alloc::Global;
+use std::marker::Brand;
 use std::process::Abort;
+use std::sync::ledger::{Blank, Ledger};
 use std::test::Fail;
 
 #[derive(Clone, Copy)]
@@ -210,7 +212,8 @@ fn calls_answer_as_by_hand(rt: HostRuntime) -> Result<(), Fail> {
         ),
     ];
     for (row, case) in rows.iter().enumerate() {
-        run_row::<Col>(&rt, rt.alloc(), row, *case)?;
+        run_row::<ListColumn>(&rt, rt.alloc(), row, *case)?;
+        run_row::<RunColumn>(&rt, rt.alloc(), row, *case)?;
     }
     Ok(())
 }
@@ -259,7 +262,98 @@ fn runs_and_divisors_as_by_hand(rt: HostRuntime) -> Result<(), Fail> {
         (&[9, 0, -15, 25], 1, &[(9, 1), (0, 1), (-15, 1), (25, 1)]),
     ];
     for (row, case) in rows.iter().enumerate() {
-        run_listed::<Col>(&rt, rt.alloc(), row, *case)?;
+        run_listed::<ListColumn>(&rt, rt.alloc(), row, *case)?;
+        run_listed::<RunColumn>(&rt, rt.alloc(), row, *case)?;
     }
+    Ok(())
+}
+
+// A list and a step; then how many runs there are, and which of them holds each item.
+type Found<'a> = (&'a [i64], Step<'a>, u32, &'a [u32]);
+
+fn found<L: Ledger>(column: &RunColumn, i: u32, blank: Blank) -> u32
+    requires name { blank.name ≡ L.name }
+    requires parts { blank.parts ≡ L.parts }
+    requires some { 0 < blank.parts }
+    requires inside { i < length column.now }
+{
+    let mut steps = Steps::<L>::from_blank(blank);
+    column.find(i, &mut steps)
+}
+
+fn run_found(rt: &impl Abort, alloc: Global, row: usize, case: Found) -> Result<(), NoMemory> {
+    let (items, step, count, runs) = case;
+    assert!(rt; items.len() <= 8);
+    let mut column = filled::<RunColumn>(alloc, items)?;
+    take_step(rt, alloc, &mut column, step)?;
+    assert_eq!(rt; column.runs(), count, "row {row}");
+    assert_eq!(rt; column.len() as usize, runs.len(), "row {row}");
+    for i in 0..column.len() {
+        let holds = found::<Brand>(&column, i, Blank::new(1));
+        assert_eq!(rt; holds, runs[i as usize], "row {row} item {i}");
+    }
+    Ok(())
+}
+
+#[test]
+fn runs_stay_longest(rt: HostRuntime) -> Result<(), Fail> {
+    let rows: [Found; 11] = [
+        (&[], Step::Stay, 0, &[]),
+        (&[4, 4, 4], Step::Stay, 1, &[0, 0, 0]),
+        (&[4, 5, 5, 4], Step::Stay, 3, &[0, 1, 1, 2]),
+        (&[4, 5], Step::Copies(5, 2), 2, &[0, 1, 1, 1]),
+        (&[4, 5], Step::Copies(6, 2), 3, &[0, 1, 2, 2]),
+        (&[4, 5], Step::Append(&[5, 6]), 3, &[0, 1, 1, 2]),
+        (&[4, 4, 5, 5, 6], Step::Keep(1, 3), 2, &[0, 1]),
+        (&[4, 4, 5, 5, 6], Step::Keep(2, 4), 1, &[0, 0]),
+        (&[4, 5, 6], Step::Scale(0), 1, &[0, 0, 0]),
+        (&[4, 6, 6], Step::Divide(2), 2, &[0, 1, 1]),
+        (&[4, 5, 5], Step::Shift(-5), 2, &[0, 1, 1]),
+    ];
+    for (row, case) in rows.iter().enumerate() {
+        run_found(&rt, rt.alloc(), row, *case)?;
+    }
+    Ok(())
+}
+
+// 0 and 1 in turn: as many runs as items.
+fn turns(rt: &impl Abort, alloc: Global, count: u32) -> Result<RunColumn, NoMemory> {
+    let mut column = RunColumn::new(alloc);
+    for i in 0..count {
+        assert!(rt; column.len() < MOST_ITEMS);
+        column.push(i64::from(i % 2))?;
+    }
+    Ok(column)
+}
+
+#[test]
+fn a_million_items_in_turn(rt: HostRuntime) -> Result<(), Fail> {
+    let column = turns(&rt, rt.alloc(), 1_000_000)?;
+    assert_eq!(&rt; column.runs(), 1_000_000);
+    let mut items = 0_i64;
+    let mut sums = 0_i128;
+    for i in 0..column.len() {
+        items = items.wrapping_add(column.at(i));
+        sums = sums.wrapping_add(column.prefix(i));
+    }
+    assert_eq!(&rt; items, 500_000);
+    assert_eq!(&rt;
+        sums.wrapping_add(column.prefix(column.len())),
+        250_000_000_000
+    );
+    Ok(())
+}
+
+#[test]
+fn equal_items_are_one_run(rt: HostRuntime) -> Result<(), Fail> {
+    let mut column = RunColumn::new(rt.alloc());
+    for _ in 0..8_388_608_u32 {
+        assert!(&rt; column.len() < MOST_ITEMS);
+        column.push(1024)?;
+    }
+    assert_eq!(&rt; column.len(), MOST_ITEMS);
+    assert_eq!(&rt; column.runs(), 1);
+    assert_eq!(&rt; column.total(), 8_589_934_592);
+    assert_eq!(&rt; column.prefix(8_388_607), 8_589_933_568);
     Ok(())
 }

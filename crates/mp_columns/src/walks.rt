@@ -1,6 +1,6 @@
 //! Walks over the numbers of a list.
 
-ghost use Rattle.std.specs.Prelude.{◌≡◌, ◌+◌, ◌≤◌, ◌<◌, All, FitsSigned, length, map, slice_range, unsigned_abs};
+ghost use Rattle.std.specs.Prelude.{◌≡◌, ◌+◌, ◌-◌, ◌≤◌, ◌<◌, All, FitsSigned, length, map, slice_range, unsigned_abs};
 ghost use Rattle.std.specs.Prelude.{pos, ◌+ℤ◌, ◌*ℤ◌, int_div, int_rem};
 ghost use Rattle.std.specs.Int.{w64};
 ghost use Rattle.mp_frac.specs.Divisors.{IsGreatestCommon};
@@ -68,13 +68,23 @@ pub(crate) fn run_at(items: &[i64], from: u32) -> Run
 }
 
 /// Keeps the items from `from` up to `to`, and moves each of them once.
-pub(crate) fn keep(items: &mut Vec<i64>, from: usize, to: usize)
+pub(crate) fn keep<T: Copy>(items: &mut Vec<T>, from: usize, to: usize)
     requires order { from ≤ to }
     requires inside { to ≤ length items.old.items }
     ensures { items.new.items ≡ slice_range items.old.items from to }
 {
     items.copy_within(from..to, 0);
     items.truncate(to - from);
+}
+
+/// Each number less `by`.
+pub(crate) fn lower_each(numbers: &mut [u32], by: u32)
+    requires { All (λ number. by ≤ number) numbers.old }
+    ensures { numbers.new ≡ map (λ number. number - by) numbers.old }
+{
+    for number in numbers.iter_mut() {
+        *number -= by;
+    }
 }
 
 /// Each item plus `by`.

@@ -1,0 +1,65 @@
+//! The sums that stand at every sixteenth run.
+
+ghost use Rattle.std.specs.Prelude.{◌≡◌, ◌+◌, ◌*◌, ◌/◌, ◌^◌, ◌≤◌, length, vec_capacity, vec_len};
+ghost use Rattle.std.specs.Prelude.{pos, neg_ℤ, ◌+ℤ◌, ◌*ℤ◌, ◌≤ℤ◌};
+ghost use Rattle.mp_columns.specs.declared.columns.TheConstants.{MOST_ITEMS};
+ghost use Rattle.mp_columns.specs.Kept.{AreLongest, AreSums, IsColumn, IsSum, all_items, start_at};
+
+use crate::search::{items_in, run_of, start_in};
+
+/// A sum is kept at every so many runs.
+pub(crate) const STRIDE: usize = 16;
+
+/// A sum, with so many equal items more.
+fn add_run(sum: i128, value: i64, count: u32) -> i128
+    requires low { neg_ℤ (pos (2 ^ 100)) ≤ℤ sum }
+    requires high { sum ≤ℤ pos (2 ^ 100) }
+    ensures { result ≡ sum +ℤ (value *ℤ pos count) }
+{
+    sum + i128::from(value) * i128::from(count)
+}
+
+/// The sum of the first `i` items, for which at most 16 runs are read behind the search.
+pub(crate) fn sum_to(ends: &[u32], values: &[i64], sums: &[i128], i: u32) -> i128
+    requires column { IsColumn ends.now values.now sums.now }
+    requires inside { i ≤ length (all_items ends.now values.now) }
+    ensures { IsSum (all_items ends.now values.now) i result }
+{
+    if i == 0 {
+        return 0;
+    }
+    let run = run_of(ends, i - 1);
+    let mut sum = sums[run / STRIDE];
+    for before in STRIDE * (run / STRIDE)..run {
+        sum = add_run(sum, values[before], ends[before] - start_in(ends, before));
+    }
+    add_run(sum, values[run], i - start_in(ends, run))
+}
+
+/// Writes the sum at every sixteenth run.
+pub(crate) fn fill_sums(ends: &[u32], values: &[i64], sums: &mut [i128])
+    requires longest { AreLongest ends.now values.now }
+    requires few { length (all_items ends.now values.now) ≤ MOST_ITEMS }
+    requires count { length sums.old ≡ (length ends.now + 15) / 16 }
+    ensures { AreSums (length ends.now) ends.now (all_items ends.now values.now) sums.new }
+{
+    let mut sum = 0;
+    for run in 0..ends.len() {
+        if run % STRIDE == 0 {
+            sums[run / STRIDE] = sum;
+        }
+        sum = add_run(sum, values[run], ends[run] - start_in(ends, run));
+    }
+}
+
+/// Pushes the sum of all items, where the next run is a sixteenth one.
+pub(crate) fn push_sum(ends: &[u32], values: &[i64], sums: &mut Vec<i128>)
+    requires column { IsColumn ends.now values.now sums.old.items }
+    requires room { vec_len sums.old + 1 ≤ vec_capacity sums.old }
+    ensures { AreSums (length ends.now + 1) ends.now (all_items ends.now values.now) sums.new.items }
+{
+    if ends.len() % STRIDE == 0 {
+        let sum = sum_to(ends, values, sums, items_in(ends));
+        let _ = sums.push(sum);
+    }
+}
