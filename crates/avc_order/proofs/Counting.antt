@@ -1,5 +1,6 @@
 -- How many are lower.
-use Rattle.std.proofs.Common.{◌≡◌, ◌≢◌, ℕ, zero, suc, ◌+◌, ◌-◌, ◌<◌, ◌≤◌, ℤ, pos, int_lt, ◌≤ℤ◌, Bool, true, false, if◌then◌else◌, List, [], ◌∷◌, length, get_or, cond, refl, sym, ap, ◌∙◌, arith, inl, inr, ◌⊎◌}
+use Rattle.std.proofs.Common.{◌≡◌, ◌≢◌, ℕ, zero, suc, ◌+◌, ◌-◌, ◌<◌, ◌≤◌, ℤ, pos, int_lt, ◌≤ℤ◌, Bool, true, false, if◌then◌else◌, List, [], ◌∷◌, length, get_or, cond, refl, sym, ap, ◌∙◌, arith, inl, inr}
+use Rattle.std.proofs.lemmas.Bool.{cases_Bool}
 use Rattle.std.proofs.lemmas.Int.{ints}
 use Rattle.std.proofs.lemmas.List.Sums.{sum_by-cons}
 use Rattle.std.proofs.lemmas.List.Sorted.{sum_by-IsPermutation}
@@ -120,15 +121,11 @@ lower-less c d (x ∷ xs) (suc at) h lt e = omega (arith, each_less x c d h, low
 equal_or : (a b : ℤ) → int_lt a b ≡ false → int_lt b a ≡ false → a ≡ b
 equal_or a b h k = grind (arith, ints)
 
-cases : (b : Bool) → (b ≡ true) ⊎ (b ≡ false)
-cases true = inl refl
-cases false = inr refl
-
 -- counts of one rank are one count
 pub same_rank : (xs : List ℤ) (i j : ℕ) → i < length xs → j < length xs → lower (count_at xs i) xs ≡ lower (count_at xs j) xs → count_at xs i ≡ count_at xs j
-same_rank xs i j hi hj e = elim (cases (int_lt (count_at xs i) (count_at xs j))) [
+same_rank xs i j hi hj e = elim (cases_Bool (int_lt (count_at xs i) (count_at xs j))) [
   | inl y ↦ absurd (let l = lower-less (count_at xs i) (count_at xs j) xs i y hi refl in omega arith)
-  | inr n ↦ elim (cases (int_lt (count_at xs j) (count_at xs i))) [
+  | inr n ↦ elim (cases_Bool (int_lt (count_at xs j) (count_at xs i))) [
     | inl y ↦ absurd (let l = lower-less (count_at xs j) (count_at xs i) xs j y hj refl in omega arith)
     | inr m ↦ equal_or (count_at xs i) (count_at xs j) n m
   ]

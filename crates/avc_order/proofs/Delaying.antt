@@ -1,8 +1,7 @@
 -- One picture further.
-use Rattle.std.proofs.Common.{◌≡◌, ◌⊎◌, inl, inr, ℕ, ◌+◌, ◌-◌, ◌<◌, ◌≤◌, Bool, true, false, List, length, max, get_or, refl, sym, ap, ◌∙◌, arith}
-use Rattle.std.proofs.lemmas.Bool.{cases_lt, cases_order}
-use Rattle.avc_order.specs.Sequence.{is_sync, BeginsAt}
-use Rattle.avc_order.specs.Delay.{IsLate}
+use Rattle.std.proofs.Common.{◌≡◌, inl, inr, ℕ, ◌+◌, ◌-◌, ◌<◌, ◌≤◌, Bool, List, get_or, arith}
+use Rattle.std.proofs.lemmas.Bool.{cases_lt}
+use Rattle.avc_order.specs.Sequence.{BeginsAt}
 use Rattle.avc_order.proofs.Sharing.{same_begin}
 
 -- the delay behind one picture more is enough for it too

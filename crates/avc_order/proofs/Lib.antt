@@ -2,3 +2,5 @@ mod Counting
 mod Sharing
 mod Ranking
 mod Delaying
+mod Cutting
+mod Standing

@@ -1,5 +1,5 @@
 -- Picture order counts (H.264, 8.2.1), by the first slices of pictures in decode order.
-use Rattle.std.specs.Prelude.{ℕ, ◌+◌, ◌-◌, ◌*◌, ◌^◌, ◌==◌, ◌&&◌, nat_lt, nat_le, Bool, if◌then◌else◌, ℤ, pos, ◌+ℤ◌, ◌-ℤ◌, int_lt, List, [], ◌∷◌}
+use Rattle.std.specs.Prelude.{ℕ, ◌+◌, ◌-◌, ◌*◌, ◌^◌, ◌==◌, ◌&&◌, nat_lt, nat_le, if◌then◌else◌, ℤ, pos, ◌+ℤ◌, ◌-ℤ◌, int_lt, List, [], ◌∷◌}
 use Rattle.avc_sets.specs.Set.{SequenceSet}
 use Rattle.avc_slices.specs.declared.slice.Slice.{Slice}
 use Rattle.avc_order.specs.declared.count.Rule.{Rule}

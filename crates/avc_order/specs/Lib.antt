@@ -1,4 +1,5 @@
 pub mod Picture
+pub mod Access
 pub mod Count
 pub mod Sequence
 pub mod Ranks

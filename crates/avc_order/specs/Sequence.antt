@@ -19,6 +19,15 @@ pub record BeginsAt (syncs : List Bool) (first picture : ℕ) : Type 0 where
   pub sync : is_sync syncs first ≡ true
   pub alone : (k : ℕ) → first < k → k ≤ picture → is_sync syncs k ≡ false
 
+-- each picture stands in one sequence, and in no other
+pub record StandsInOne (syncs : List Bool) (picture : ℕ) : Type 0 where
+  pub first : ℕ
+  pub end : ℕ
+  pub sequence : IsSequence syncs first end
+  pub from : first ≤ picture
+  pub before : picture < end
+  pub no_other : (a b : ℕ) → IsSequence syncs a b → a ≤ picture → picture < b → (a ≡ first) × (b ≡ end)
+
 -- pictures and their marks: the first is a sync picture
 pub record AreMarked (pictures : ℕ) (syncs : List Bool) : Type 0 where
   pub same : pictures ≡ length syncs

@@ -1,7 +1,8 @@
-// Picture order counts.
-ghost use Rattle.std.specs.Prelude.{◌≡◌, ◌+◌, ◌*◌, ◌<◌, ◌≤◌, ◌^◌, ℕ, ℤ, pos, neg_ℤ, ◌≤ℤ◌, ◌+ℤ◌};
+//! Picture order counts.
+ghost use Rattle.std.specs.Prelude.{◌≡◌, ◌+◌, ◌*◌, ◌<◌, ◌≤◌, ◌^◌, ℕ, ℤ, pos, neg_ℤ, ◌≤ℤ◌, ◌+ℤ◌, List, ◌∷◌};
 ghost use Rattle.avc_order.specs.Count.{rule_of, nothing, before, turn_of, moved, msb_of, lesser, field_count};
-ghost use Rattle.avc_order.specs.Count.{offset_of, frame_count, count_by, kept_behind, count_of, after};
+ghost use Rattle.avc_order.specs.Count.{offset_of, frame_count, count_by, kept_behind, count_of, after, counts_of};
+ghost use Rattle.avc_slices.specs.declared.slice.Slice.{Slice};
 
 use avc_sets::Sps;
 use avc_slices::Slice;
@@ -68,6 +69,9 @@ impl Counts {
     pub fn next(&mut self, first: &Slice) -> i64
         requires { self.old.calls < 8388608 }
         ensures count { result ≡ count_of self.old.rule self.old.kept first.now }
+        // It is the first of the counts of this picture and of any behind it, and the others come next.
+        ensures counts { (firsts : List Slice) → counts_of self.old.rule self.old.kept (first.now ∷ firsts)
+            ≡ result ∷ counts_of self.new.rule self.new.kept firsts }
         ensures kept { self.new.kept ≡ after self.old.rule self.old.kept first.now }
         ensures rule { self.new.rule ≡ self.old.rule }
         ensures calls { self.new.calls ≡ self.old.calls + 1 }

@@ -1,4 +1,4 @@
-// The delay of showing.
+//! The delay of showing.
 ghost use Rattle.std.specs.Prelude.{◌≡◌, length};
 ghost use Rattle.avc_order.specs.Sequence.{AreMarked};
 ghost use Rattle.avc_order.specs.Delay.{IsDelay};

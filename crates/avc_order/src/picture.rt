@@ -1,4 +1,4 @@
-// Where a picture starts.
+//! Where a picture starts.
 ghost use Rattle.std.specs.Prelude.{◌≡◌};
 ghost use Rattle.avc_order.specs.Picture.{starts_picture, differ_in_reference, differ_in_order};
 

@@ -1,4 +1,4 @@
-// Ranks: how many pictures of a sequence have a lower count. The code sorts.
+//! Ranks: how many pictures of a sequence have a lower count. The code sorts.
 ghost use Rattle.std.specs.Prelude.{◌≡◌, ◌≢◌, ℕ, ℤ, int_lt, Ok, Err, OnOk, ◌+◌, ◌<◌, ◌≤◌, List, length, map, ◌++◌, IfOk};
 ghost use Rattle.avc_order.specs.Sequence.{AreMarked};
 ghost use Rattle.avc_order.specs.Ranks.{lower, count_at, AreRanks, AreDistinct, IsTie};

@@ -1,4 +1,4 @@
-// Coded video sequences.
+//! Coded video sequences.
 ghost use Rattle.std.specs.Prelude.{◌≡◌, ◌-◌, ◌<◌, ◌≤◌, true, length};
 ghost use Rattle.avc_order.specs.Sequence.{IsSequence, BeginsAt, is_sync};
 

@@ -123,6 +123,100 @@ fn pictures_start(rt: HostRuntime) {
     }
 }
 
+/// Types of units in turn, and what is to be known of each: whether it starts another access unit, whether a picture
+/// begins with it, whether it is kept.
+#[test]
+fn access_units_begin(rt: HostRuntime) {
+    let first = NalUnit::Coded(SLICE, 0);
+    let other = NalUnit::Coded(
+        Slice {
+            idr: false,
+            frame_num: 1,
+            ..SLICE
+        },
+        0,
+    );
+    let rows: [(NalUnit, bool, bool, bool); 17] = [
+        (NalUnit::Delimiter, false, false, false),
+        (NalUnit::Set, false, false, false),
+        (NalUnit::Sei, false, false, true),
+        (first, false, true, true),
+        (first, false, false, true),
+        (NalUnit::Filler, false, false, false),
+        (first, false, false, true),
+        (other, true, true, true),
+        (NalUnit::Sei, true, false, true),
+        (NalUnit::Set, false, false, false),
+        // the same slice once more, in an access unit of its own
+        (other, false, true, true),
+        (NalUnit::End, false, false, false),
+        (NalUnit::Set, true, false, false),
+        (NalUnit::End, false, false, false),
+        (first, false, true, true),
+        // no slice comes any more
+        (NalUnit::Delimiter, true, false, false),
+        (NalUnit::Sei, false, false, true),
+    ];
+    let mut units = AccessUnits::new();
+    for (unit, access_unit, picture, kept) in rows {
+        let begins = units.next(&unit);
+        assert!(&rt;
+            begins
+                == Begins {
+                    access_unit,
+                    picture
+                }
+        );
+        assert!(&rt; unit.is_kept() == kept);
+    }
+    assert!(&rt; !units.has_picture());
+}
+
+/// The first pictures of two films, of which one has counts by fields. The low part has 6 bits.
+#[test]
+fn counts_of_real_streams(rt: HostRuntime) {
+    let films: [(&[u8], &[(Row, i64)]); 2] = [
+        (
+            b"\x67\x64\0\x0B\xAC\xD9\x42\x8D\xF9\x30\x11\0\0\0\x01\0\0\0\x32\x0F\x14\x29\x96",
+            &[
+                ((true, 3, 0, 0, 0), 0),
+                ((false, 2, 1, 8, 0), 8),
+                ((false, 2, 2, 4, 0), 4),
+                ((false, 0, 3, 2, 0), 2),
+                ((false, 0, 3, 6, 0), 6),
+                ((false, 2, 3, 16, 0), 16),
+                ((false, 2, 4, 12, 0), 12),
+                ((false, 0, 5, 10, 0), 10),
+                ((false, 0, 5, 14, 0), 14),
+            ],
+        ),
+        (
+            b"\x67\x64\0\x15\xAC\xD9\x43\x08\xFC\xD8\x08\x80\0\x01\xF4\x80\0\x75\x30\x0F\x8A\x14\xCB",
+            &[
+                ((true, 3, 0, 1, -1), 0),
+                ((false, 2, 1, 7, -1), 6),
+                ((false, 2, 2, 3, -1), 2),
+                ((false, 0, 3, 5, -1), 4),
+                ((false, 2, 3, 13, -1), 12),
+                ((false, 2, 4, 9, -1), 8),
+                ((false, 0, 5, 11, -1), 10),
+                ((false, 2, 5, 19, -1), 18),
+                ((false, 2, 6, 15, -1), 14),
+                ((false, 0, 7, 17, -1), 16),
+            ],
+        ),
+    ];
+    for (sps, rows) in films {
+        let Ok(sps) = read_sps(sps) else {
+            return;
+        };
+        let mut counts = Counts::new(&sps);
+        for (row, count) in rows {
+            assert!(&rt; next(&mut counts, *row) == Some(*count));
+        }
+    }
+}
+
 /// The low part has 4 bits.
 #[test]
 fn counts_of_type_0(rt: HostRuntime) {
@@ -177,14 +271,21 @@ fn counts_of_type_2(rt: HostRuntime) {
 fn pictures_have_ranks(rt: HostRuntime) {
     const T: bool = true;
     const F: bool = false;
-    let rows: [(&[i64], &[bool], Result<(&[u32], u32), Option<u32>>); 7] = [
+    let rows: [(&[i64], &[bool], Result<(&[u32], u32), Option<u32>>); 9] = [
         (&[], &[], Ok((&[], 0))),
         (&[0], &[T], Ok((&[0], 0))),
+        (&[0, 6, 2, 4], &[T, F, F, F], Ok((&[0, 3, 1, 2], 1))),
         // the first pictures of a film with a pyramid
         (
             &[0, 8, 4, 2, 6, 16, 12, 10, 14],
             &[T, F, F, F, F, F, F, F, F],
             Ok((&[0, 4, 2, 1, 3, 8, 6, 5, 7], 2)),
+        ),
+        // and those of an interlaced one
+        (
+            &[0, 6, 2, 4, 12, 8, 10, 18, 14, 16],
+            &[T, F, F, F, F, F, F, F, F, F],
+            Ok((&[0, 3, 1, 2, 6, 4, 5, 9, 7, 8], 1)),
         ),
         // two sequences with the same counts, and one whose sync picture isn't shown first
         (

@@ -1,7 +1,7 @@
 -- Scaling lists that are passed entry by entry, and list by list.
-use Rattle.std.proofs.Common.{◌≡◌, ℕ, zero, suc, ◌+◌, ◌-◌, ◌<◌, ◌≤◌, List, [], ◌∷◌, drop, length, Result, Ok, Err, refl, ◌∙◌, ap, arith}
+use Rattle.std.proofs.Common.{◌≡◌, ℕ, zero, suc, ◌+◌, ◌-◌, ◌<◌, ◌≤◌, List, [], ◌∷◌, Ok, Err, refl, ◌∙◌, ap, arith}
 use Rattle.avc_units.specs.declared.elements.ElementFail.{ElementFail}
-use Rattle.avc_units.specs.Table.{walk, ◌>>=◌}
+use Rattle.avc_units.specs.Table.{walk}
 use Rattle.avc_units.specs.Law.{AreReadInTurn}
 use Rattle.avc_sets.specs.declared.format.Scales.{Scales}
 use Rattle.avc_sets.specs.Format.{scale, scales_of, scaling_list, scaling_lists}

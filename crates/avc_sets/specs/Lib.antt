@@ -1,4 +1,5 @@
 pub mod Set
+pub mod Fields
 pub mod Format
 pub mod Size
 pub mod Usability

@@ -1,5 +1,5 @@
 -- The sequence parameter set, element by element (H.264, 7.3.2.1.1).
-use Rattle.std.specs.Prelude.{ℕ, ◌+◌, ◌==◌, if◌then◌else◌}
+use Rattle.std.specs.Prelude.{◌+◌, ◌==◌, if◌then◌else◌}
 use Rattle.mp_ports.specs.declared.code.Code.TheVariants.{PocType}
 use Rattle.avc_units.specs.declared.elements.ElementFail.TheVariants.{Refused}
 use Rattle.avc_units.specs.Table.{Table, ◌>>=◌}

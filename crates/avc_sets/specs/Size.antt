@@ -1,5 +1,5 @@
 -- The size of the pictures of a sequence: macroblocks, map units and cropping (H.264, 7.3.2.1.1 and 7.4.2.1.1).
-use Rattle.std.specs.Prelude.{ℕ, ◌+◌, ◌-◌, ◌*◌, ◌==◌, ◌&&◌, nat_le, Bool, true, false, if◌then◌else◌}
+use Rattle.std.specs.Prelude.{ℕ, ◌+◌, ◌-◌, ◌*◌, ◌==◌, ◌&&◌, nat_le, Bool, if◌then◌else◌}
 use Rattle.avc_units.specs.declared.elements.ElementFail.TheVariants.{Syntax}
 use Rattle.avc_units.specs.Table.{Table, ◌>>=◌}
 use Rattle.avc_units.specs.Table.Table.{Done, Fail}

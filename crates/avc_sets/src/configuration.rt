@@ -1,4 +1,4 @@
-// The configuration that an entry keeps.
+//! The configuration that an entry keeps.
 ghost use Rattle.std.specs.Prelude.{◌≡◌, ◌≤◌, ◌++◌, ◌∷◌, [], All, length, vec_len, IfOk, OnOk};
 ghost use Rattle.std.specs.List.{flat_map};
 ghost use Rattle.avc_sets.specs.Configuration.{items_of, set_bytes, format_bytes, configuration};

@@ -1,7 +1,7 @@
-// Profiles, chroma format, bit depths and scaling lists.
+//! Profiles, chroma format, bit depths and scaling lists.
 ghost use Rattle.std.specs.Prelude.{◌≡◌, ◌<◌, ◌≤◌, ◌≤ℤ◌, pos, neg_ℤ, IfOk};
 ghost use Rattle.avc_units.specs.Table.{walk};
-ghost use Rattle.avc_units.specs.Answer.{Takes};
+ghost use Rattle.avc_units.specs.Cursor.{Takes};
 ghost use Rattle.avc_sets.specs.Set.{IsWithin};
 ghost use Rattle.avc_sets.specs.Format.{is_high, is_profile, profile, scale_behind, scale, scales_of, scaling_list, scaling_lists, list_lengths, scaling_matrix, format};
 

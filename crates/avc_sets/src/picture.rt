@@ -1,9 +1,9 @@
-// The picture parameter set.
+//! The picture parameter set.
 ghost use Rattle.std.specs.Prelude.{◌≡◌, ◌≤◌, drop, length};
 ghost use Rattle.mp_ports.specs.declared.code.Code.TheVariants.{SetSyntax};
 ghost use Rattle.avc_units.specs.Bits.{bits_of};
 ghost use Rattle.avc_units.specs.Table.{walk, SaysCode};
-ghost use Rattle.avc_units.specs.Answer.{Takes};
+ghost use Rattle.avc_units.specs.Cursor.{Takes};
 ghost use Rattle.avc_sets.specs.Picture.{one_slice_group, quantisers, picture};
 
 use crate::Pps;

@@ -1,4 +1,4 @@
-// What is kept of parameter sets.
+//! What is kept of parameter sets.
 use std::marker::Model;
 
 /// A sequence parameter set (H.264, 7.3.2.1.1). Its type keeps each value in its range.
@@ -28,39 +28,11 @@ impl Model for Sps {
 
     ghost Value = { SequenceSet };
 
-    ghost view = { λ s. record {
-      profile = s.profile;
-      compat = s.compat;
-      level = s.level;
-      number = s.number;
-      chroma = s.chroma;
-      luma_depth = s.luma_depth;
-      chroma_depth = s.chroma_depth;
-      frame_bits = s.frame_bits;
-      poc_type = s.poc_type;
-      poc_bits = s.poc_bits;
-      frames_only = s.frames_only;
-      width = s.width;
-      height = s.height;
-      tick = s.tick;
-    } };
+    ghost use Rattle.avc_sets.specs.Fields.{sequence_set};
 
-    ghost invariant = { λ s. IsSequenceSet (record {
-      profile = s.profile;
-      compat = s.compat;
-      level = s.level;
-      number = s.number;
-      chroma = s.chroma;
-      luma_depth = s.luma_depth;
-      chroma_depth = s.chroma_depth;
-      frame_bits = s.frame_bits;
-      poc_type = s.poc_type;
-      poc_bits = s.poc_bits;
-      frames_only = s.frames_only;
-      width = s.width;
-      height = s.height;
-      tick = s.tick;
-    }) };
+    ghost view = { sequence_set };
+
+    ghost invariant = { λ s. IsSequenceSet (sequence_set s) };
 }
 
 /// A picture parameter set (H.264, 7.3.2.2). Its type keeps each value in its range.
@@ -84,25 +56,9 @@ impl Model for Pps {
 
     ghost Value = { PictureSet };
 
-    ghost view = { λ p. record {
-      number = p.number;
-      sps = p.sps;
-      bottom_order = p.bottom_order;
-      refs0 = p.refs0;
-      refs1 = p.refs1;
-      weighted = p.weighted;
-      bipred = p.bipred;
-      redundant = p.redundant;
-    } };
+    ghost use Rattle.avc_sets.specs.Fields.{picture_set};
 
-    ghost invariant = { λ p. IsPictureSet (record {
-      number = p.number;
-      sps = p.sps;
-      bottom_order = p.bottom_order;
-      refs0 = p.refs0;
-      refs1 = p.refs1;
-      weighted = p.weighted;
-      bipred = p.bipred;
-      redundant = p.redundant;
-    }) };
+    ghost view = { picture_set };
+
+    ghost invariant = { λ p. IsPictureSet (picture_set p) };
 }

@@ -1,7 +1,7 @@
-// The size of pictures.
+//! The size of pictures.
 ghost use Rattle.std.specs.Prelude.{◌≡◌, ◌<◌, ◌≤◌, ◌^◌, IfOk};
 ghost use Rattle.avc_units.specs.Table.{walk};
-ghost use Rattle.avc_units.specs.Answer.{Takes};
+ghost use Rattle.avc_units.specs.Cursor.{Takes};
 ghost use Rattle.avc_sets.specs.Size.{crop, fields_of, crop_columns, crop_rows, width, height, is_extent, adaptive, size};
 
 use avc_units::{Bits, ElementFail, elements_in_turn, tables_in_turn};

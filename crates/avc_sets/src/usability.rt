@@ -1,7 +1,7 @@
-// Video usability information.
+//! Video usability information.
 ghost use Rattle.std.specs.Prelude.{◌≡◌};
 ghost use Rattle.avc_units.specs.Table.{walk};
-ghost use Rattle.avc_units.specs.Answer.{Takes};
+ghost use Rattle.avc_units.specs.Cursor.{Takes};
 ghost use Rattle.avc_sets.specs.Usability.{extended_ratio, aspect_ratio, overscan, colour, signal, chroma_location, timing, usability};
 
 use avc_units::{Bits, ElementFail, elements_in_turn};

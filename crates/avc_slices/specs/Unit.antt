@@ -1,5 +1,5 @@
 -- The first byte of a unit (H.264, 7.3.1).
-use Rattle.std.specs.Prelude.{ℕ, ◌/◌, ◌%◌, ◌==◌, List, [], ◌∷◌, slice_index}
+use Rattle.std.specs.Prelude.{ℕ, ◌/◌, ◌%◌, ◌==◌}
 use Rattle.avc_slices.specs.declared.unit.Nal.{Nal}
 
 -- nal_ref_idc, and whether nal_unit_type is that of an IDR picture

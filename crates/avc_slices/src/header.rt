@@ -1,7 +1,7 @@
-// The slice header.
+//! The slice header.
 ghost use Rattle.std.specs.Prelude.{◌≡◌, ◌<◌, ◌≤◌, ℕ, length, option_copied, OnOk};
 ghost use Rattle.avc_units.specs.Table.{walk};
-ghost use Rattle.avc_units.specs.Answer.{Takes};
+ghost use Rattle.avc_units.specs.Cursor.{Takes};
 ghost use Rattle.avc_slices.specs.Header.{set_of, frame, idr_number, bottom_difference, order, primary};
 ghost use Rattle.avc_slices.specs.Header.{prediction, picture_part, header};
 

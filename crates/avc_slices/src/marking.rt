@@ -1,7 +1,7 @@
-// How decoded pictures are marked as references.
+//! How decoded pictures are marked as references.
 ghost use Rattle.std.specs.Prelude.{◌≡◌, ◌<◌, ◌≤◌, ℕ, length, OnOk};
 ghost use Rattle.avc_units.specs.Table.{walk};
-ghost use Rattle.avc_units.specs.Answer.{Takes};
+ghost use Rattle.avc_units.specs.Cursor.{Takes};
 ghost use Rattle.avc_slices.specs.Marking.{long_term_index, operands, operations, idr_marking};
 ghost use Rattle.avc_slices.specs.Marking.{adaptive_marking, marking};
 

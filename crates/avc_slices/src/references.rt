@@ -1,7 +1,7 @@
-// The references of a slice.
+//! The references of a slice.
 ghost use Rattle.std.specs.Prelude.{◌≡◌, ◌<◌, ◌≤◌, ℕ, length, OnOk};
 ghost use Rattle.avc_units.specs.Table.{walk};
-ghost use Rattle.avc_units.specs.Answer.{Takes};
+ghost use Rattle.avc_units.specs.Cursor.{Takes};
 ghost use Rattle.avc_slices.specs.References.{is_b, is_p, is_predicted, direct, second_list, references};
 ghost use Rattle.avc_slices.specs.References.{changes, modification, second_modification, modifications};
 

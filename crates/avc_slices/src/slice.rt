@@ -1,4 +1,4 @@
-// What is kept of a slice header.
+//! What is kept of a slice header.
 ghost use Rattle.std.specs.Prelude.{◌≡◌, ◌<◌, ℕ, drop, length, slice_index, option_copied};
 ghost use Rattle.mp_ports.specs.declared.code.Code.TheVariants.{SliceSyntax};
 ghost use Rattle.avc_units.specs.Bits.{bits_of};

@@ -148,3 +148,21 @@ fn headers_that_are_refused(rt: HostRuntime) {
     // no sets at all
     assert!(&rt; read_slice(b"\x65\x88\x84\x80", None, &[]) == Err(Code::SetMissing));
 }
+
+/// Sets laid out by hand: the number of the picture set and that of the sequence set which it names aren't the same.
+#[test]
+fn sets_are_found_by_their_own_numbers(rt: HostRuntime) {
+    const FIRST: &[u8] = b"\x67\x42\0\x0A\xDA\x79";
+    const SECOND: &[u8] = b"\x67\x42\0\x0A\x56\x9E\x40";
+    let of_0 = b"\x65\x88\x84\x80";
+    let of_2 = b"\x65\x88\x61\x20";
+    let intra = slice(true, 3, 0, 0, 0, 0);
+    // picture set 0 of sequence set 1, and picture set 2 of sequence sets 0 and 1
+    assert!(&rt; read(SECOND, b"\x68\xA3\x8E\x20", of_0) == Ok(intra));
+    assert!(&rt; read(FIRST, b"\x68\x73\x8E\x20", of_2) == Ok(Slice { pps: 2, ..intra }));
+    assert!(&rt; read(SECOND, b"\x68\x68\xE3\x88", of_2) == Ok(Slice { pps: 2, ..intra }));
+    // the sequence set that is named, and the picture set of the slice, aren't there
+    assert!(&rt; read(FIRST, b"\x68\xA3\x8E\x20", of_0) == Err(Code::SetMissing));
+    assert!(&rt; read(SECOND, b"\x68\x73\x8E\x20", of_2) == Err(Code::SetMissing));
+    assert!(&rt; read(SECOND, b"\x68\x68\xE3\x88", of_0) == Err(Code::SetMissing));
+}

@@ -1,4 +1,4 @@
-// The first byte of a unit.
+//! The first byte of a unit.
 ghost use Rattle.std.specs.Prelude.{◌≡◌};
 ghost use Rattle.avc_slices.specs.Unit.{nal_of};
 

@@ -1,7 +1,7 @@
-// The weights of a slice's references.
+//! The weights of a slice's references.
 ghost use Rattle.std.specs.Prelude.{◌≡◌, ◌≤◌, length, OnOk};
 ghost use Rattle.avc_units.specs.Table.{walk};
-ghost use Rattle.avc_units.specs.Answer.{Takes};
+ghost use Rattle.avc_units.specs.Cursor.{Takes};
 ghost use Rattle.avc_slices.specs.Weights.{is_weighted, has_chroma, denominators, weight, luma_weight};
 ghost use Rattle.avc_slices.specs.Weights.{chroma_weights, weights, second_weights, weight_table};
 

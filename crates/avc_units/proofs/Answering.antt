@@ -1,5 +1,5 @@
 -- From the first byte and the end of a unit to the answer.
-use Rattle.std.proofs.Common.{◌≡◌, ℕ, ◌+◌, ◌-◌, ◌<◌, ◌≤◌, inl, inr, List, [], ◌∷◌, ◌++◌, length, take, drop, Option, Some, None, IfSome, Result, Ok, Err, sym, ap, subst, ◌∙◌, arith}
+use Rattle.std.proofs.Common.{◌≡◌, ℕ, zero, suc, ◌+◌, ◌-◌, ◌<◌, ◌≤◌, add-one, drop-cons, get_or, refl, inl, inr, List, [], ◌∷◌, ◌++◌, length, take, drop, Option, Some, None, IfSome, Result, Ok, Err, sym, ap, subst, ◌∙◌, arith}
 use Rattle.mp_ports.specs.Checks.{bad_at}
 use Rattle.mp_ports.specs.declared.code.Code.TheVariants.{UnitFraming, UnitLimit}
 use Rattle.avc_units.specs.declared.reader.UnitSpan.{UnitSpan}
@@ -9,9 +9,10 @@ use Rattle.avc_units.specs.declared.piece.First.{First}
 use Rattle.avc_units.specs.Units.{Placed, HasUnits}
 use Rattle.avc_units.specs.Reader.{IsNextUnit}
 use Rattle.avc_units.specs.Reading.{zeros_of}
-use Rattle.avc_units.specs.Scan.{unit_len, found, step, IsFirst, Gives}
+use Rattle.avc_units.specs.Scan.{unit_len, left_of, found, step, HoldsUnit, IsFirst, Gives}
 use Rattle.avc_units.specs.Scan.Step.{OneUnit}
-use Rattle.avc_units.proofs.Passing.{drop_more}
+use Rattle.std.proofs.lemmas.List.{length-drop}
+use Rattle.avc_units.proofs.Passing.{drop_more, zeros_some, front_of}
 use Rattle.avc_units.proofs.Cutting.{start-is, found-some, step-is, next-bytes, has-more, none-zeros}
 use Rattle.avc_units.proofs.Faults.{fault-is, fault-first}
 
@@ -76,3 +77,36 @@ stands_so b at us (Ok (Some s)) g h =
 pub stands_told : (bytes : Option (List ℕ)) (at : ℕ) (r : Result (Option UnitSpan) UnitFail) → IfSome bytes (λ b. Gives b at r) → IfSome bytes (λ b. (us : List Placed) → HasUnits b us at → IsNextUnit b us at r)
 stands_told None at r g = tt
 stands_told (Some b) at r g = λ us h. stands_so b at us r g h
+
+-- ---- a unit that stands in what was read
+
+drop_front : (xs rest : List ℕ) (n : ℕ) → n ≤ length xs → drop n (xs ++ rest) ≡ drop n xs ++ rest
+drop_front xs rest zero h = refl
+drop_front [] rest (suc n) h = absurd (omega arith)
+drop_front (x ∷ xs) rest (suc n) h = drop_front xs rest n (omega arith)
+
+step_in : (piece rest : List ℕ) (z used : ℕ) → z ≡ zeros_of piece → z < length piece → get_or piece z 0 ≡ 1 → 2 ≤ z → 2 < used
+    → ((more : List ℕ) → left_of 0 (drop (z + 1) piece ++ more) + 2 ≡ 0 + used) → step (piece ++ rest) ≡ OneUnit (z + 1) (used - 2)
+step_in piece rest z used is low byte two some ended =
+    let zeros : zeros_of (piece ++ rest) ≡ z = zeros_some piece rest (omega arith) ∙ sym is in
+    let tail = drop (z + 1) piece ++ rest in
+    let one : drop z piece ≡ 1 ∷ drop (z + 1) piece = rw (add-one, drop-cons piece z 0, byte) refl in
+    let here : drop z (piece ++ rest) ≡ 1 ∷ tail = drop_front piece rest z (omega arith) ∙ ap (λ (t : List ℕ). t ++ rest) one in
+    let len : unit_len tail ≡ used - 2 = let e = ended rest in omega arith in
+    let from : z - 2 + 3 ≡ z + 1 = omega arith in
+    rw (zeros, here)
+    (start-is z (z - 2) tail (omega arith) ∙ ap (λ (k : ℕ). found k (unit_len tail)) from ∙ ap (found (z + 1)) len ∙ found-some (z + 1) (used - 2) (omega arith))
+
+pub holds_unit : (piece : List ℕ) (z used : ℕ) → z ≡ zeros_of piece → z < length piece → get_or piece z 0 ≡ 1 → 2 ≤ z → 2 < used → used < length (drop (z + 1) piece)
+    → ((more : List ℕ) → left_of 0 (drop (z + 1) piece ++ more) + 2 ≡ 0 + used) → HoldsUnit piece (z + 1) (used - 2)
+holds_unit piece z used is low byte two some within ended = record {
+  code = omega arith;
+  some = omega arith;
+  within = omega (arith, length-drop (z + 1) piece);
+  next = λ rest. step_in piece rest z used is low byte two some ended;
+}
+
+pub gives_held : (bytes : Option (List ℕ)) (end n from len : ℕ) (piece : List ℕ) → IfSome bytes (λ b. piece ≡ take n (drop end b)) → HoldsUnit piece from len
+    → IfSome bytes (λ b. Gives b end (Ok (Some (record { from = end + from; len = len }))))
+gives_held None end n from len piece holds u = tt
+gives_held (Some b) end n from len piece holds u = (from, ap step (sym (front_of b end n piece holds)) ∙ u.next (drop (end + n) b), refl)

@@ -1,5 +1,6 @@
 -- Reading from left to right finds the units, and no others.
-use Rattle.std.proofs.Common.{◌≡◌, ◌≢◌, ℕ, zero, suc, ◌+◌, ◌<◌, ◌≤◌, Bool, true, false, ◌||◌, List, [], ◌∷◌, ◌++◌, length, take, drop, replicate, refl, sym, ap, subst, ◌∙◌, arith, inl, inr, ◌⊎◌}
+use Rattle.std.proofs.Common.{◌≡◌, ◌≢◌, ℕ, zero, suc, ◌+◌, ◌<◌, ◌≤◌, Bool, true, false, ◌||◌, List, [], ◌∷◌, ◌++◌, length, take, drop, replicate, refl, sym, ap, subst, ◌∙◌, arith, inl, inr}
+use Rattle.std.proofs.lemmas.Bool.{cases_Bool}
 use Rattle.std.proofs.lemmas.List.{take-append-drop, length-take-le, take_at}
 use Rattle.avc_units.proofs.Passing.{drop_more}
 use Rattle.avc_units.specs.Units.{only_zeros, is_break, ends, last_of, IsUnit, Placed, HasUnitsFrom}
@@ -30,10 +31,6 @@ unit-read (zero ∷ zero ∷ suc (suc z) ∷ zs) after l w e = ap suc (unit-read
 
 -- ---- what is read is a unit
 
-cases : (b : Bool) → (b ≡ true) ⊎ (b ≡ false)
-cases true = inl refl
-cases false = inr refl
-
 left_false : (a b : Bool) → (a || b) ≡ false → a ≡ false
 left_false true b h = no h
 left_false false b h = refl
@@ -41,7 +38,7 @@ left_false false b h = refl
 pub unit-behind : (t : List ℕ) → ends (drop (unit_len t) t) ≡ true
 unfolding unit_len
 unit-behind [] = refl
-unit-behind (x ∷ xs) = elim (cases (ends (x ∷ xs))) [
+unit-behind (x ∷ xs) = elim (cases_Bool (ends (x ∷ xs))) [
   | inl e ↦ rw e e
   | inr e ↦ rw e (unit-behind xs)
 ]
@@ -61,7 +58,7 @@ behind_last (suc x) xs n e b f = λ h. absurd (omega arith)
 pub unit-last : (t : List ℕ) → 0 < unit_len t → last_of (take (unit_len t) t) ≢ 0
 unfolding unit_len
 unit-last [] h = absurd (omega arith)
-unit-last (x ∷ xs) h = elim (cases (ends (x ∷ xs))) [
+unit-last (x ∷ xs) h = elim (cases_Bool (ends (x ∷ xs))) [
   | inl e ↦ absurd (let k : 0 < 0 = rw e at h in omega arith)
   | inr e ↦ rw e (go x xs (unit_len xs) refl e (unit-last xs))
 ]
@@ -89,7 +86,7 @@ break-nothing (suc n) = refl
 pub unit-whole : (t : List ℕ) (n : ℕ) → is_break (drop n (take (unit_len t) t)) ≡ false
 unfolding unit_len
 unit-whole [] n = break-nothing n
-unit-whole (x ∷ xs) n = elim (cases (ends (x ∷ xs))) [
+unit-whole (x ∷ xs) n = elim (cases_Bool (ends (x ∷ xs))) [
   | inl e ↦ rw e (break-nothing n)
   | inr e ↦ rw e (go x xs n e (unit-whole xs))
 ]
@@ -179,7 +176,7 @@ two-more (suc n) t = rw (suc_two n) (ap (λ (ys : List ℕ). 0 ∷ ys) (two-more
 unit-within : (t : List ℕ) → unit_len t ≤ length t
 unfolding unit_len
 unit-within [] = omega arith
-unit-within (x ∷ xs) = elim (cases (ends (x ∷ xs))) [
+unit-within (x ∷ xs) = elim (cases_Bool (ends (x ∷ xs))) [
   | inl e ↦ rw e (omega arith)
   | inr e ↦ rw e (let h = unit-within xs in omega arith)
 ]

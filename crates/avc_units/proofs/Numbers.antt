@@ -1,8 +1,8 @@
 -- One bit more.
-use Rattle.std.proofs.Common.{◌≡◌, ℕ, zero, suc, ◌+◌, ◌-◌, ◌*◌, ◌^◌, ◌<◌, ◌≤◌, List, [], ◌∷◌, length, take, drop, get_or, Bool, true, false, ◌||◌, nat_lt, Option, Some, None, refl, sym, ap, ◌∙◌, add-one, arith, rules, inl, inr, ◌⊎◌}
+use Rattle.std.proofs.Common.{◌≡◌, ℕ, zero, suc, ◌+◌, ◌-◌, ◌*◌, ◌^◌, ◌<◌, ◌≤◌, List, [], ◌∷◌, length, take, drop, get_or, Bool, true, false, ◌||◌, nat_lt, Option, Some, None, refl, sym, ap, ◌∙◌, add-one, arith, rules, inl, inr}
 use Rattle.std.proofs.lemmas.List.{take_all, length-take-le}
 use Rattle.std.proofs.Math.Pow.{pow_mono}
-use Rattle.std.proofs.lemmas.Bool.{lt-ltb, le-ltb, ltb-false, cases_lt}
+use Rattle.std.proofs.lemmas.Bool.{cases_Bool, lt-ltb, le-ltb, ltb-false, cases_lt}
 use Rattle.std.proofs.lemmas.List.{length-drop, same_lists, places}
 use Rattle.std.specs.Int.{bit_at}
 use Rattle.avc_units.specs.Bits.{bits_of, number}
@@ -173,17 +173,13 @@ pub record IsCodeRead (v : ℕ) (bits rest : List ℕ) : Type 0 where
 
 pub code_is : (v : ℕ) (bits rest : List ℕ) → read Ue bits ≡ Some (v, rest) → IsCodeRead v bits rest
 unfolding read
-code_is v bits rest e = elim (cases_or (nat_lt 31 (zeros_of bits) || nat_lt (length bits) (zeros_of bits + 1 + zeros_of bits))) [
+code_is v bits rest e = elim (cases_Bool (nat_lt 31 (zeros_of bits) || nat_lt (length bits) (zeros_of bits + 1 + zeros_of bits))) [
   | inl y ↦ none (rw y at e)
   | inr n ↦ some (neither (nat_lt 31 (zeros_of bits)) (nat_lt (length bits) (zeros_of bits + 1 + zeros_of bits)) n) (rw n at e)
 ]
   where
     none : let f : Option (ℕ × List ℕ) = None in f ≡ Some (v, rest) → IsCodeRead v bits rest
     none h = absurd cc
-
-    cases_or : (b : Bool) → (b ≡ true) ⊎ (b ≡ false)
-    cases_or true = inl refl
-    cases_or false = inr refl
 
     neither : (a b : Bool) → (a || b) ≡ false → (a ≡ false) × (b ≡ false)
     neither true b h = absurd cc

@@ -9,7 +9,7 @@ use Rattle.avc_units.proofs.Scanning.{left-end}
 pub drop_more : (at n : ℕ) (b : List ℕ) → drop n (drop at b) ≡ drop (at + n) b
 drop_more at n b = same_lists _ _ (search (rules, places)) (λ k d q. grind (arith, places))
 
-front_of : (b : List ℕ) (at n : ℕ) (piece : List ℕ) → piece ≡ take n (drop at b) → piece ++ drop (at + n) b ≡ drop at b
+pub front_of : (b : List ℕ) (at n : ℕ) (piece : List ℕ) → piece ≡ take n (drop at b) → piece ++ drop (at + n) b ≡ drop at b
 front_of b at n piece h = rw (h, ← drop_more at n b) (take-append-drop n (drop at b))
 
 pub passed_on : (bytes : Option (List ℕ)) (from at n z z2 used : ℕ) (piece : List ℕ) → from ≤ at → used ≡ n → IfSome bytes (λ b. piece ≡ take n (drop at b))
@@ -58,7 +58,7 @@ zeros_all [] ys h = omega arith
 zeros_all (zero ∷ xs) ys h = let k : zeros_of xs ≡ length xs = omega arith in let r = zeros_all xs ys k in omega arith
 zeros_all (suc x ∷ xs) ys h = absurd (omega arith)
 
-zeros_some : (xs ys : List ℕ) → zeros_of xs < length xs → zeros_of (xs ++ ys) ≡ zeros_of xs
+pub zeros_some : (xs ys : List ℕ) → zeros_of xs < length xs → zeros_of (xs ++ ys) ≡ zeros_of xs
 zeros_some [] ys h = absurd (omega arith)
 zeros_some (zero ∷ xs) ys h = ap suc (zeros_some xs ys (omega arith))
 zeros_some (suc x ∷ xs) ys h = refl

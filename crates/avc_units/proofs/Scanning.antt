@@ -66,3 +66,15 @@ one_on piece rest at h n =
     let f = front piece at h in
     let next : drop (at + 1) piece ≡ get_or piece (at + 1) 0 ∷ get_or piece (at + 2) 0 ∷ drop (at + 3) piece = sym (further at 1 piece) ∙ ap (drop 1) f in
     rw (f, next) (one (get_or piece at 0) (get_or piece (at + 1) 0) (get_or piece (at + 2) 0 ∷ (drop (at + 3) piece ++ rest)) n)
+
+none : (a b c : ℕ) (t : List ℕ) → a ≡ 0 → b ≡ 0 → c < 2 → unit_len (a ∷ b ∷ c ∷ t) ≡ 0
+unfolding unit_len
+none zero zero zero t e f h = refl
+none zero zero (suc zero) t e f h = refl
+none a b (suc (suc c)) t e f h = absurd (omega arith)
+none (suc a) b c t e f h = absurd (omega arith)
+none zero (suc b) c t e f h = absurd (omega arith)
+
+-- two zeros and a byte below 2 end the unit
+pub none_on : (piece rest : List ℕ) (at : ℕ) → at + 2 < length piece → get_or piece at 0 ≡ 0 → get_or piece (at + 1) 0 ≡ 0 → get_or piece (at + 2) 0 < 2 → left_of 0 (drop at piece ++ rest) ≡ 0
+none_on piece rest at h a b c = rw (front piece at h) (none (get_or piece at 0) (get_or piece (at + 1) 0) (get_or piece (at + 2) 0) (drop (at + 3) piece ++ rest) a b c)

@@ -2,7 +2,7 @@ pub mod Bits
 pub mod Reading
 pub mod Table
 pub mod Elements
-pub mod Answer
+pub mod Cursor
 pub mod Law
 pub mod Emulation
 pub mod Units

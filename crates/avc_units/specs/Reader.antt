@@ -1,12 +1,14 @@
 -- What a reader of units answers.
 use Rattle.std.specs.Prelude.{◌≡◌, ◌⊎◌, ℕ, ◌+◌, ◌<◌, ◌≤◌, List, [], ◌∷◌, ◌++◌, length, take, drop, Option, Some, None, Result, Ok, Err}
 use Rattle.mp_ports.specs.Checks.{bad_at}
-use Rattle.mp_ports.specs.Folder.{FolderState, FailsToRead}
+use Rattle.mp_ports.specs.Folder.{FolderState, OpenedFile, FailsToRead}
 use Rattle.mp_ports.specs.declared.code.Code.TheVariants.{UnitFraming, UnitLimit}
 use Rattle.mp_ports.specs.declared.fault.Bad.{Bad}
+use Rattle.avc_units.specs.declared.piece.Piece.{Piece}
 use Rattle.avc_units.specs.declared.reader.UnitSpan.{UnitSpan}
 use Rattle.avc_units.specs.declared.reader.UnitFail.{UnitFail}
 use Rattle.avc_units.specs.declared.reader.UnitFail.TheVariants.{Bad as Refused, ReadFault}
+use Rattle.avc_units.specs.Scan.{Keeps}
 use Rattle.avc_units.specs.Units.{Placed, HasUnits, AreUnits, IsFault}
 
 -- the longest unit that is read, in bytes
@@ -36,6 +38,11 @@ pub record LiesBehind (end size : ℕ) (span : UnitSpan) : Type 0 where
   pub some : 0 < span.len
   pub within : span.from + span.len ≤ size
   pub few : span.len ≤ longest_unit
+
+-- a reader of an opened file: it has the file's size, and what it keeps of the file is what stands in it
+pub record IsReaderOf (file : OpenedFile) (size : ℕ) (piece : Piece) : Type 0 where
+  pub size_is : size ≡ file.size
+  pub kept : Keeps file piece
 
 -- where the reader stands after an answer: behind the unit, or where it stood
 abbrev pub end_after : ℕ → Result (Option UnitSpan) UnitFail → ℕ

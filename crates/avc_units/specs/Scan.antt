@@ -1,5 +1,5 @@
 -- A byte stream read from left to right: the next unit of a text, and what a scan knows of it piece by piece.
-use Rattle.std.specs.Prelude.{◌≡◌, ◌⊎◌, ℕ, zero, suc, ◌+◌, ◌<◌, ◌≤◌, List, [], ◌∷◌, ◌++◌, drop, take, replicate, if◌then◌else◌, Option, Some, None, IfSome, Result, Ok, Err}
+use Rattle.std.specs.Prelude.{◌≡◌, ◌⊎◌, ℕ, zero, suc, ◌+◌, ◌<◌, ◌≤◌, List, [], ◌∷◌, ◌++◌, length, drop, take, replicate, if◌then◌else◌, Option, Some, None, IfSome, Result, Ok, Err}
 use Rattle.mp_ports.specs.Checks.{bad_at}
 use Rattle.mp_ports.specs.declared.code.Code.TheVariants.{UnitFraming, UnitLimit}
 use Rattle.mp_ports.specs.Folder.{OpenedFile}
@@ -41,6 +41,13 @@ step text = step_from (zeros_of text) (drop (zeros_of text) text)
 abbrev pub left_of : ℕ → List ℕ → ℕ
 left_of z text = unit_len (replicate z 0 ++ text)
 
+-- a text in which a unit and what ends it stand: whatever comes behind the text, that unit is next
+pub record HoldsUnit (text : List ℕ) (from len : ℕ) : Type 0 where
+  pub code : 3 ≤ from
+  pub some : 0 < len
+  pub within : from + len ≤ length text
+  pub next : (rest : List ℕ) → step (text ++ rest) ≡ OneUnit from len
+
 -- ---- where the file is told
 
 -- n bytes from that place in the window are those of the file
@@ -58,7 +65,7 @@ IsFirst b from (Some first) = (first.place ≡ from + zeros_of (drop from b)) ×
 
 -- what was read of an opened file is what stands in it
 pub record Keeps (file : OpenedFile) (piece : Piece) : Type 0 where
-  pub few : piece.len ≤ 4096
+  pub few : piece.len ≤ 16384
   pub within : piece.place + piece.len ≤ file.size
   pub holds : Holds file.bytes piece.place piece.len piece.bytes
 

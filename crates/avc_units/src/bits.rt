@@ -1,10 +1,10 @@
-// A cursor over the bits of bytes.
+//! A cursor over the bits of bytes.
 ghost use Rattle.std.specs.Prelude.{◌≡◌, ◌-◌, ◌^◌, ◌<◌, ◌≤◌, IfSome};
 ghost use Rattle.std.specs.Int.{bit_at};
 ghost use Rattle.avc_units.specs.Bits.{bits_of};
 ghost use Rattle.avc_units.specs.Bits.Kind.{U, Ue};
 ghost use Rattle.avc_units.specs.Reading.{read, read_signed, signed};
-ghost use Rattle.avc_units.specs.Answer.{IsNext, Reads};
+ghost use Rattle.avc_units.specs.Cursor.{IsNext, Reads};
 
 use std::marker::Model;
 

@@ -1,8 +1,8 @@
-// Single elements, read as a table reads them.
+//! Single elements, read as a table reads them.
 ghost use Rattle.std.specs.Prelude.{◌≡◌, ◌-◌, ◌<◌, ◌≤◌, ◌^◌, ◌≤ℤ◌, length, IfOk, OnOk};
 ghost use Rattle.avc_units.specs.Table.{walk, code_of};
 ghost use Rattle.avc_units.specs.Elements.{u, flag, ue, ue_upto, se, se_within};
-ghost use Rattle.avc_units.specs.Answer.{Takes};
+ghost use Rattle.avc_units.specs.Cursor.{Takes};
 
 use crate::Bits;
 use crate::bits::signed_of;

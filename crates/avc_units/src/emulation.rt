@@ -1,4 +1,4 @@
-// Units without the bytes that keep start codes out of them.
+//! Units without the bytes that keep start codes out of them.
 ghost use Rattle.std.specs.Prelude.{◌≡◌, ◌≤◌, ℕ, List, ◌∷◌, None, IfSome, IfOk};
 ghost use Rattle.avc_units.specs.Emulation.{clean, clean_behind};
 

@@ -1,4 +1,4 @@
-// Laws of byte streams and of syntax tables: calls that do nothing, whose contracts are the laws.
+//! Laws of byte streams and of syntax tables: calls that do nothing, whose contracts are the laws.
 ghost use Rattle.std.specs.Prelude.{ℕ, ℤ, Bool, List};
 ghost use Rattle.avc_units.specs.Law.{AreReadInTurn, AreRead, AreSaidByFronts};
 ghost use Rattle.avc_units.specs.Emulation.{IsCleanFront};

@@ -1,14 +1,16 @@
-// The piece of a file that was read last: units that stand in it are found with no further read.
-ghost use Rattle.std.specs.Prelude.{◌≡◌, ◌+◌, ◌-◌, ◌<◌, ◌≤◌, length, drop, IfSome, IfOk, OnOk, OnErr};
+//! The piece of a file that was read last: units that stand in it are found with no further read.
+ghost use Rattle.std.specs.Prelude.{◌≡◌, ◌+◌, ◌-◌, ◌^◌, ◌<◌, ◌≤◌, length, drop, Some, Ok, IfSome, IfOk, OnOk, OnErr};
 ghost use Rattle.mp_ports.specs.Folder.{FolderState, OpenedFile, opened_at, FailsToRead};
-ghost use Rattle.avc_units.specs.Scan.{Keeps, IsFirst, IsKept, unit_len};
+ghost use Rattle.avc_units.specs.Reader.{LiesBehind};
+ghost use Rattle.avc_units.specs.Scan.{Keeps, IsFirst, IsKept, Gives, unit_len};
 
-use crate::search::{scan, zeros_in};
+use crate::reader::UnitSpan;
+use crate::search::{scan, unit_in, zeros_in};
 use crate::window::{Source, end_behind, fill};
 use mp_ports::{Folder, PortFault};
 
 // The length of a piece, in bytes.
-const PIECE_LEN: usize = 4096;
+const PIECE_LEN: usize = 16_384;
 
 // The first `len` bytes are those of the file from that place on.
 #[derive(Drop)]
@@ -64,6 +66,28 @@ impl Piece {
                 Ok(0)
             }
             Err(fault) => Err(fault),
+        }
+    }
+
+    // The unit behind that place, where it and what ends it were read.
+    pub(crate) fn unit_behind(&self, end: u64) -> Option<UnitSpan>
+        requires few { self.now.len ≤ 16384 }
+        requires within { self.now.place + self.now.len < 2 ^ 64 }
+        ensures behind { (file : OpenedFile) → Keeps file self.now
+            → IfSome result (λ span. LiesBehind end file.size span) }
+        ensures gives { (file : OpenedFile) → Keeps file self.now
+            → IfSome result (λ span. IfSome file.bytes (λ b. Gives b end (Ok (Some span)))) }
+    {
+        if end < self.place || self.len as u64 <= end - self.place {
+            return None;
+        }
+        let start = (end - self.place) as usize;
+        match unit_in(&self.bytes[start..self.len]) {
+            Some(unit) => Some(UnitSpan {
+                from: end + unit.from as u64,
+                len: unit.len as u32,
+            }),
+            None => None,
         }
     }
 

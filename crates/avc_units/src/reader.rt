@@ -1,9 +1,9 @@
-// One unit after another, through a window.
+//! One unit after another, through a window.
 ghost use Rattle.std.specs.Prelude.{◌≡◌, ◌+◌, ◌<◌, ◌≤◌, List, length, IfSome, IfOk};
 ghost use Rattle.mp_ports.specs.Folder.{FolderState, OpenedFile, opened_at};
 ghost use Rattle.mp_ports.specs.Checks.{bad_at};
 ghost use Rattle.avc_units.specs.Units.{Placed, HasUnits};
-ghost use Rattle.avc_units.specs.Reader.{IsNextUnit, LiesBehind, OnlyReads, end_after};
+ghost use Rattle.avc_units.specs.Reader.{IsReaderOf, IsNextUnit, LiesBehind, OnlyReads, end_after};
 ghost use Rattle.avc_units.specs.Scan.{Gives, Keeps};
 
 use crate::piece::Piece;
@@ -49,7 +49,7 @@ impl UnitReader {
         ensures file { result.file ≡ file }
         ensures size { result.size ≡ size }
         ensures front { result.end ≡ 0 }
-        ensures kept { (file : OpenedFile) → Keeps file result.piece }
+        ensures reader { (opened : OpenedFile) → size ≡ opened.size → IsReaderOf opened result.size result.piece }
     {
         UnitReader {
             file,
@@ -68,10 +68,8 @@ impl UnitReader {
         window: &mut [u8],
     ) -> Result<Option<UnitSpan>, UnitFail>
         requires file { self.old.file < length (F.state folder.old).opened }
-        requires size { self.old.size ≡ (opened_at (F.state folder.old) self.old.file).size }
+        requires reader { IsReaderOf (opened_at (F.state folder.old) self.old.file) self.old.size self.old.piece }
         requires window { 16 ≤ length window.old }
-        // What it has read of the file is what stands there.
-        requires kept { Keeps (opened_at (F.state folder.old) self.old.file) self.old.piece }
 
         // Where the folder tells, the answer is what comes next behind the units that the reader stands behind.
         ensures told { IfSome (opened_at (F.state folder.old) self.old.file).bytes
@@ -82,7 +80,7 @@ impl UnitReader {
         ensures end { self.new.end ≡ end_after self.old.end result }
         ensures file { self.new.file ≡ self.old.file }
         ensures size { self.new.size ≡ self.old.size }
-        ensures kept { Keeps (opened_at (F.state folder.new) self.new.file) self.new.piece }
+        ensures reader { IsReaderOf (opened_at (F.state folder.new) self.new.file) self.new.size self.new.piece }
         ensures reads { OnlyReads result (F.state folder.old) (F.state folder.new) }
     {
         let source = Source {
@@ -118,6 +116,9 @@ fn look<F: Folder>(
     ensures kept { Keeps (opened_at (F.state folder.old) source.file) piece.new }
     ensures reads { OnlyReads result (F.state folder.old) (F.state folder.new) }
 {
+    if let Some(span) = piece.unit_behind(end) {
+        return Ok(Some(span));
+    }
     let _size = folder.size(source.file);
     let first = match piece.first_byte(folder, source, end) {
         Ok(Some(first)) => first,

@@ -1,7 +1,7 @@
-// Zeros and the ends of units in pieces of bytes.
+//! Zeros and the ends of units in pieces of bytes.
 ghost use Rattle.std.specs.Prelude.{◌≡◌, ◌+◌, ◌<◌, ◌≤◌, ℕ, List, ◌∷◌, ◌++◌, length, drop, None, IfSome, true, false};
 ghost use Rattle.avc_units.specs.Reading.{zeros_of};
-ghost use Rattle.avc_units.specs.Scan.{left_of};
+ghost use Rattle.avc_units.specs.Scan.{left_of, HoldsUnit};
 
 // Where a piece leaves the search for a unit's end: how many of its bytes were passed, how many zeros were the last of
 // them, and whether the unit ended two bytes before.
@@ -12,10 +12,39 @@ pub(crate) struct Stand {
     pub(crate) ended: bool,
 }
 
+// A unit in a piece: the index of its first byte, and its length.
+#[derive(Clone, Copy)]
+pub(crate) struct Whole {
+    pub(crate) from: usize,
+    pub(crate) len: usize,
+}
+
+// The next unit, where it and what ends it stand in the piece.
+pub(crate) fn unit_in(piece: &[u8]) -> Option<Whole>
+    ensures { IfSome result (λ unit. HoldsUnit piece.now unit.from unit.len) }
+{
+    let zeros = zeros_in(piece);
+    if zeros < 2 || piece.len() <= zeros || piece[zeros] != 1 {
+        return None;
+    }
+    let stand = scan(0, &piece[zeros + 1..]);
+    if !stand.ended || stand.used == 2 {
+        return None;
+    }
+    Some(Whole {
+        from: zeros + 1,
+        len: stand.used - 2,
+    })
+}
+
 // How many zeros stand in front.
 pub(crate) fn zeros_in(piece: &[u8]) -> usize
     ensures { result ≡ zeros_of piece.now }
 {
+    // As in front of a start code.
+    if piece.len() > 2 && piece[2] != 0 && piece[1] == 0 && piece[0] == 0 {
+        return 2;
+    }
     for (i, byte) in piece.iter().enumerate() {
         if *byte != 0 {
             return i;
@@ -40,6 +69,13 @@ pub(crate) fn scan(zeros: usize, piece: &[u8]) -> Stand
     while at < piece.len() {
         if seen == 0 {
             at = pass_plain(piece, at);
+            if piece.len() - at > 2 {
+                return Stand {
+                    used: at + 2,
+                    zeros: 2,
+                    ended: true,
+                };
+            }
             if at == piece.len() {
                 break;
             }
@@ -87,9 +123,11 @@ fn pass_plain(piece: &[u8], from: usize) -> usize
     ensures high { result ≤ length piece.now }
     ensures plain { (rest : List ℕ) → left_of 0 (drop from piece.now ++ rest) + from
         ≡ result + left_of 0 (drop result piece.now ++ rest) }
+    ensures end { result + 2 < length piece.now
+        → (rest : List ℕ) → left_of 0 (drop result piece.now ++ rest) ≡ 0 }
 {
     let mut at = from;
-    while at < piece.len() && piece.len() - at > 2 {
+    while piece.len() - at > 2 {
         match plain_at(piece, at) {
             Some(n) => at += n,
             None => return at,
@@ -103,9 +141,10 @@ fn pass_plain(piece: &[u8], from: usize) -> usize
 #[inline(always)]
 fn plain_at(piece: &[u8], at: usize) -> Option<usize>
     requires { at + 2 < length piece.now }
-    ensures { IfSome result (λ n. (0 < n) × (at + n ≤ length piece.now)
+    ensures further { IfSome result (λ n. (0 < n) × (at + n ≤ length piece.now)
         × ((rest : List ℕ) → left_of 0 (drop at piece.now ++ rest)
         ≡ n + left_of 0 (drop (at + n) piece.now ++ rest))) }
+    ensures end { result ≡ None → (rest : List ℕ) → left_of 0 (drop at piece.now ++ rest) ≡ 0 }
 {
     if piece[at + 2] > 1 {
         return Some(3);

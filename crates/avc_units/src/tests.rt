@@ -97,7 +97,7 @@ fn streams_are_cut_into_units(rt: HostRuntime) -> Result<(), Fail> {
 
 #[test]
 fn zeros_go_on_over_reads(rt: HostRuntime) -> Result<(), Fail> {
-    for zeros in [100, 4094, 9000_usize] {
+    for zeros in [100, 16_382, 36_000_usize] {
         let mut bytes = Vec::from_slice(rt.alloc(), b"\0\0\x01\x41")?;
         bytes.resize(4 + zeros, 0)?;
         bytes.extend_from_slice(b"\x01\x41")?;
@@ -114,7 +114,7 @@ fn zeros_go_on_over_reads(rt: HostRuntime) -> Result<(), Fail> {
 /// window of 16 bytes.
 #[test]
 fn units_go_on_over_windows(rt: HostRuntime) -> Result<(), Fail> {
-    for len in 4080..4116_u32 {
+    for len in 16_368..16_404_u32 {
         let mut bytes = Vec::from_slice(rt.alloc(), b"\0\0\x01")?;
         bytes.resize(3 + len as usize, 0x41)?;
         bytes.extend_from_slice(b"\0\0\x01\x41")?;
@@ -158,7 +158,7 @@ fn a_unit_of_the_greatest_length_is_read(rt: HostRuntime) -> Result<(), Fail> {
 #[test]
 fn a_failed_read_moves_nothing(rt: HostRuntime) -> Result<(), Fail> {
     let mut bytes = Vec::from_slice(rt.alloc(), b"\0\0\x01")?;
-    bytes.resize(5003, 0x41)?;
+    bytes.resize(20_003, 0x41)?;
     bytes.extend_from_slice(b"\0\0\x01A")?;
     // the second read for the first unit
     let mut folder = folder_of(rt.alloc(), bytes, &[3])?;
@@ -168,8 +168,20 @@ fn a_failed_read_moves_nothing(rt: HostRuntime) -> Result<(), Fail> {
     let mut window = [0u8; 16];
     let mut reader = UnitReader::new(file, folder.size(file));
     assert!(rt; reader.next(&mut folder, &mut window) == Err(UnitFail::ReadFault));
-    assert!(rt; reader.next(&mut folder, &mut window) == Ok(Some(UnitSpan { from: 3, len: 5000 })));
-    assert!(rt; reader.next(&mut folder, &mut window) == Ok(Some(UnitSpan { from: 5006, len: 1 })));
+    assert!(rt;
+        reader.next(&mut folder, &mut window)
+            == Ok(Some(UnitSpan {
+                from: 3,
+                len: 20_000
+            }))
+    );
+    assert!(rt;
+        reader.next(&mut folder, &mut window)
+            == Ok(Some(UnitSpan {
+                from: 20_006,
+                len: 1
+            }))
+    );
     Ok(())
 }
 

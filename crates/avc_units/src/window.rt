@@ -1,4 +1,4 @@
-// Long units: the rest of a unit, read through a window.
+//! Long units: the rest of a unit, read through a window.
 ghost use Rattle.std.specs.Prelude.{◌≡◌, ◌+◌, ◌-◌, ◌<◌, ◌≤◌, length, drop, IfSome, IfOk, OnOk, OnErr};
 ghost use Rattle.mp_ports.specs.Folder.{FolderState, opened_at, FailsToRead};
 ghost use Rattle.avc_units.specs.Scan.{Holds, HasPassed, unit_len};

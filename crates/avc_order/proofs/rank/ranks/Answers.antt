@@ -1,6 +1,6 @@
-use Rattle.std.proofs.Common.{◌≡◌, ◌≤◌, ◌+◌, ◌-◌, inl, inr, length, Err, sym, ap, subst, arith}
+use Rattle.std.proofs.Common.{◌≡◌, ◌≤◌, inl, inr, length, Err, sym, ap, subst, arith}
 use Rattle.avc_order.specs.declared.rank.RankFail.TheVariants.{Tie}
-use Rattle.avc_order.specs.Ranks.{counts_in, IsTie}
+use Rattle.avc_order.specs.Ranks.{IsTie}
 use Rattle.avc_order.proofs.Ranking.{length_on, ranked_on, distinct_on, tie_on}
 use Rattle.avc_order.proofs.rank.ranks.Goals as goal
 

@@ -1,4 +1,5 @@
+use Rattle.std.proofs.Common.{rules}
 use Rattle.avc_units.proofs.tests.only_unit.Goals as goal
 
-pub next-requires-clause-kept : goal.next-requires-clause-kept
-next-requires-clause-kept c = c.new.ensures.kept _
+pub next-requires-clause-reader : goal.next-requires-clause-reader
+next-requires-clause-reader c = c.new.ensures.reader _ (search rules)

@@ -1,12 +1,11 @@
 use Rattle.std.proofs.Common.{rules}
 use Rattle.avc_units.proofs.tests.units.Goals as goal
 
--- a new reader has read nothing, of any file
+-- a new reader is one of each file of its size
 pub loop-init : goal.loop-init
 loop-init c = record {
   opened = search rules;
   file = search rules;
-  size = search rules;
-  kept = c.new-reader.ensures.kept _;
+  reader = c.new-reader.ensures.reader _ (search rules);
   window = search rules;
 }

@@ -1,13 +1,12 @@
 use Rattle.std.proofs.Common.{◌≡◌, ◌<◌, ◌≤◌, length}
 use Rattle.mp_ports.specs.Folder.{opened_at}
-use Rattle.avc_units.specs.Scan.{Keeps}
+use Rattle.avc_units.specs.Reader.{IsReaderOf}
 use Rattle.avc_units.proofs.tests.units.Given as goal
 
 abbrev pub invariant-loop : goal.invariant-loop
 invariant-loop l = record {
   opened : l.file < length l.folder.folder.opened;
   file : l.reader.file ≡ l.file;
-  size : l.reader.size ≡ (opened_at l.folder.folder l.file).size;
-  kept : Keeps (opened_at l.folder.folder l.reader.file) l.reader.piece;
+  reader : IsReaderOf (opened_at l.folder.folder l.file) l.reader.size l.reader.piece;
   window : 16 ≤ length l.window.items;
 }
