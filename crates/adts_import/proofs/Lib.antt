@@ -1,9 +1,9 @@
-mod Bytes
 mod Checks
 mod Fields
+mod Fitting
 mod Frames
 mod Laws
 mod Passing
-mod Plain
+mod Standing
 mod Streams
-mod Singles
+mod Walking

@@ -1,8 +1,10 @@
 -- One frame of an ADTS stream, and what can be wrong with it (ISO/IEC 14496-3, 1.A.2.2 and 1.A.3).
-use Rattle.std.specs.Prelude.{ℕ, ◌<◌, ◌≤◌, ◌^◌, ◌≡◌, ◌==◌, ◌&&◌, ◌||◌, not, nat_lt, List, [], ◌∷◌, length, drop, Option, Bool}
+use Rattle.std.specs.Prelude.{ℕ, ◌<◌, ◌≤◌, ◌^◌, ◌≡◌, ◌==◌, ◌&&◌, ◌||◌, not, nat_lt, nat_le, List, [], ◌∷◌, length, drop, Option, Bool}
 use Rattle.mp_ports.specs.Checks.{first_code}
+use Rattle.mp_ports.specs.Code.{number}
 use Rattle.mp_ports.specs.declared.code.Code.{Code}
 use Rattle.mp_ports.specs.declared.code.Code.TheVariants.{AdtsSync, AdtsCut, AdtsLayer, AdtsBlocks, AdtsRate, AdtsChannels}
+use Rattle.mp_columns.specs.declared.columns.TheConstants.{MOST_ITEMS}
 use Rattle.adts_import.specs.declared.header.Configuration.{Configuration}
 use Rattle.adts_import.specs.declared.header.Header.{Header}
 use Rattle.adts_import.specs.Header.{sync, layer, profile, frequency_index, channels, frame_len, header_len, more_blocks}
@@ -15,30 +17,35 @@ configuration frame = record { profile = profile frame; frequency_index = freque
 abbrev pub header_of : List ℕ → Header
 header_of frame = record { configuration = configuration frame; header_len = header_len frame; frame_len = frame_len frame }
 
--- the frame's length is shorter than its header, or longer than what is left
-abbrev pub is_cut : List ℕ → Bool
-is_cut rest = nat_lt (frame_len rest) (header_len rest) || nat_lt (length rest) (frame_len rest)
+-- the most frames that are read: the most samples that a movie keeps
+abbrev pub most_frames : ℕ
+most_frames = MOST_ITEMS
 
--- the checks of the frame that these bytes begin with, taken by itself, in order
-abbrev pub header_checks : List ℕ → List (Bool × Code)
-header_checks rest =
-    (nat_lt (length rest) 7, AdtsCut)
-    ∷ (not (sync rest == 0xFFF), AdtsSync)
-    ∷ (not (layer rest == 0), AdtsLayer)
-    ∷ (nat_lt 12 (frequency_index rest), AdtsRate)
-    ∷ (channels rest == 0, AdtsChannels)
-    ∷ (is_cut rest, AdtsCut)
-    ∷ (not (more_blocks rest == 0), AdtsBlocks)
+-- the frame's length is shorter than its header, or longer than what is left
+abbrev pub is_cut : List ℕ → ℕ → Bool
+is_cut front left = nat_lt (frame_len front) (header_len front) || nat_lt left (frame_len front)
+
+-- the checks of the frame that begins with `front`, taken by itself, in order; `left` bytes are left with it, and `front` is the first
+-- seven of them or more, or all
+abbrev pub header_checks : List ℕ → ℕ → List (Bool × Code)
+header_checks front left =
+    (nat_lt left 7, AdtsCut)
+    ∷ (not (sync front == 0xFFF), AdtsSync)
+    ∷ (not (layer front == 0), AdtsLayer)
+    ∷ (nat_lt 12 (frequency_index front), AdtsRate)
+    ∷ (channels front == 0, AdtsChannels)
+    ∷ (is_cut front left, AdtsCut)
+    ∷ (not (more_blocks front == 0), AdtsBlocks)
     ∷ []
 
 -- the first of them that fails
-unfoldable pub header_fault : List ℕ → Option Code
-header_fault rest = first_code (header_checks rest)
+unfoldable pub header_fault : List ℕ → ℕ → Option Code
+header_fault front left = first_code (header_checks front left)
 
--- the configuration isn't that of the stream's first frame
-abbrev pub changes : List ℕ → List ℕ → Bool
-changes file rest =
-    not ((profile rest == profile file) && ((frequency_index rest == frequency_index file) && (channels rest == channels file)))
+-- the configuration isn't that of the stream
+abbrev pub changes : Configuration → List ℕ → Bool
+changes stream front =
+    not ((profile front == stream.profile) && ((frequency_index front == stream.frequency_index) && (channels front == stream.channels)))
 
 -- one whole frame of AAC, with one block
 pub record IsFrame (frame : List ℕ) : Type 0 where
@@ -64,6 +71,10 @@ pub record IsHeader (header : Header) (left : ℕ) : Type 0 where
   pub payload : header.header_len ≤ header.frame_len
   pub whole : header.frame_len ≤ left
   pub short : header.frame_len < 2 ^ 13
+
+-- one of the codes for what can be wrong with a stream: those of ADTS, and the limit of samples
+abbrev pub is_stream_code : Code → Bool
+is_stream_code code = (nat_le 40 (number code) && nat_le (number code) 47) || (number code == 90)
 
 -- the bytes behind the header and its check word
 abbrev pub payload : List ℕ → List ℕ

@@ -1,9 +1,9 @@
 //! The header of an ADTS frame.
 
-ghost use Rattle.std.specs.Prelude.{◌≡◌, ◌+◌, ◌≤◌, ◌<◌, ◌^◌, ℕ, List, length, IfOk};
+ghost use Rattle.std.specs.Prelude.{◌≡◌, ◌+◌, ◌≤◌, ◌<◌, ◌^◌, ℕ, List, true, length, min, IfOk, IfErr};
 ghost use Rattle.mp_ports.specs.Checks.{Checks};
 ghost use Rattle.adts_import.specs.Header.{front_number, bits};
-ghost use Rattle.adts_import.specs.Frame.{header_fault, header_of, IsHeader};
+ghost use Rattle.adts_import.specs.Frame.{header_fault, header_of, IsHeader, is_stream_code};
 
 use mp_ports::Code;
 
@@ -24,8 +24,8 @@ pub(crate) struct Configuration {
 #[derive(Clone, Copy, Debug, PartialEq, Eq)]
 pub(crate) struct Header {
     pub(crate) configuration: Configuration,
-    pub(crate) header_len: usize,
-    pub(crate) frame_len: usize,
+    pub(crate) header_len: u32,
+    pub(crate) frame_len: u32,
 }
 
 /// The first seven bytes as one number.
@@ -49,20 +49,23 @@ fn bits(front: u64, from: u32, count: u32) -> u64
     (front >> (56 - (from + count))) & ((1 << count) - 1)
 }
 
-/// Reads the header of the frame that `rest` begins with, and tests the frame.
+/// Reads the header of the frame that begins with `front`, where `left` bytes are left with it, and tests
+/// the frame. `front` is the first seven of them, or all.
 ///
-/// `AdtsCut` where the frame ends behind `rest`, `AdtsSync`, `AdtsLayer`, `AdtsRate`, `AdtsChannels`
-/// and `AdtsBlocks` where that field is none of a frame of AAC with one block.
+/// `AdtsCut` where the frame ends behind them, `AdtsSync`, `AdtsLayer`, `AdtsRate`, `AdtsChannels` and
+/// `AdtsBlocks` where that field is none of a frame of AAC with one block.
 #[tactic(auto, unfolding(crate::specs::Frame::header_fault))]
-pub(crate) fn read_header(rest: &[u8]) -> Result<Header, Code>
-    ensures fault { Checks result (header_fault rest.now) }
-    ensures header { IfOk result (λ header. header ≡ header_of rest.now) }
-    ensures bounds { IfOk result (λ header. IsHeader header (length rest.now)) }
+pub(crate) fn read_header(front: &[u8], left: u64) -> Result<Header, Code>
+    requires { length front.now ≡ min left 7 }
+    ensures fault { Checks result (header_fault front.now left) }
+    ensures header { IfOk result (λ header. header ≡ header_of front.now) }
+    ensures bounds { IfOk result (λ header. IsHeader header left) }
+    ensures code { IfErr result (λ code. is_stream_code code ≡ true) }
 {
-    if rest.len() < 7 {
+    if left < 7 {
         return Err(Code::AdtsCut);
     }
-    let front = front_number(rest);
+    let front = front_number(front);
     if bits(front, 0, 12) != SYNC {
         return Err(Code::AdtsSync);
     }
@@ -76,7 +79,7 @@ pub(crate) fn read_header(rest: &[u8]) -> Result<Header, Code>
     if header.configuration.channels == 0 {
         return Err(Code::AdtsChannels);
     }
-    if header.frame_len < header.header_len || rest.len() < header.frame_len {
+    if header.frame_len < header.header_len || left < u64::from(header.frame_len) {
         return Err(Code::AdtsCut);
     }
     if bits(front, 54, 2) != 0 {
@@ -98,7 +101,7 @@ fn fields_of(front: u64) -> Header
         channels: bits(front, 23, 3) as u8,
     };
     let header_len = if bits(front, 15, 1) == 0 { 9 } else { 7 };
-    let frame_len = bits(front, 30, 13) as usize;
+    let frame_len = bits(front, 30, 13) as u32;
     Header {
         configuration,
         header_len,

@@ -1,2 +1,4 @@
-pub mod Fronts
 pub mod OptionSteps
+pub mod Sounds
+pub mod Writes
+pub mod Outcomes

@@ -1,8 +1,8 @@
 -- What a job comes to, given the files that are held.
-use Rattle.std.specs.Prelude.{ℕ, List, [], ◌∷◌, ◌==◌, length, nat_lt, Option, Some, None, Result, Ok, Err, if◌then◌else◌}
+use Rattle.std.specs.Prelude.{ℕ, List, [], ◌∷◌, ◌==◌, length, Option, Some, None, Result, Ok, Err}
 use Rattle.mp_ports.specs.declared.fault.Bad.{Bad}
-use Rattle.mp_ports.specs.declared.code.Code.TheVariants.{EmptyMovie, InputLimit}
-use Rattle.mp_ports.specs.Checks.{bad_at, fault_at, first_code, first_some, unless}
+use Rattle.mp_ports.specs.declared.code.Code.TheVariants.{EmptyMovie}
+use Rattle.mp_ports.specs.Checks.{fault_at, first_code, first_some, unless}
 use Rattle.mp_ports.specs.Folder.{HeldFile, bytes_under}
 use Rattle.mp_timeline.specs.Movie.{MovieRecord}
 use Rattle.adts_import.specs.Stream.{stream_movie}
@@ -15,10 +15,6 @@ pub data Outcome : Type 0 where
   Refusal : Bad → Outcome
   Absent : ℕ → Outcome
 
--- the movie of an input of at most 67,108,864 bytes
-abbrev pub input_movie : List ℕ → Result MovieRecord Bad
-input_movie bytes = if nat_lt 67108864 (length bytes) then Err (bad_at InputLimit 0) else stream_movie bytes
-
 -- the movie of an option's input, or its refusal under that option's number
 abbrev pub outcome_of : ℕ → Result MovieRecord Bad → Outcome
 outcome_of command (Ok movie) = Movie movie
@@ -27,7 +23,7 @@ outcome_of command (Err bad) = Refusal (record bad { command = command })
 -- of the option's file, where one of its name is held
 abbrev pub input_outcome : ℕ → Option (List ℕ) → Outcome
 input_outcome command None = Absent command
-input_outcome command (Some bytes) = outcome_of command (input_movie bytes)
+input_outcome command (Some bytes) = outcome_of command (stream_movie bytes)
 
 -- why a movie can't be written: it has no track, or its `moov` would be too long
 abbrev pub output_fault : ℕ → MovieRecord → Option Bad

@@ -1,8 +1,10 @@
 -- What the calls of a run answer, step by step.
-use Rattle.std.specs.Prelude.{◌≡◌, ℕ, List, Result, Ok, Err}
+use Rattle.std.specs.Prelude.{◌≡◌, ℕ, List, [], map, unwrap_or, Result, Ok, Err}
 use Rattle.mp_ports.specs.Count.{after_fault}
-use Rattle.mp_ports.specs.Folder.{FolderState}
-use Rattle.mp_timeline.specs.Movie.{MovieRecord}
+use Rattle.mp_ports.specs.Folder.{FolderState, OpenedFile}
+use Rattle.mp_movie.specs.Placed.{PlacedMovie}
+use Rattle.mp_movie.specs.StandsFor.{stands_for}
+use Rattle.mp_layout.specs.Emitted.{AreTold}
 use Rattle.mp_words.specs.declared.fault.WordFail.{WordFail}
 use Rattle.mp_words.specs.declared.fault.WordFail.TheVariants.{Words, NoMemory}
 use Rattle.mp_words.specs.Line.{WordFault}
@@ -18,13 +20,22 @@ GivesJob (Ok job) wanted = wanted ≡ Ok job
 GivesJob (Err (Words word kind)) wanted = wanted ≡ Err (word, kind)
 GivesJob (Err NoMemory) wanted = Unit
 
--- the movie of an option's input, or what it comes to instead, or a failed read, or want of memory
-abbrev pub GivesInput : Result MovieRecord InputFail → ℕ → Outcome → Type 0
-GivesInput (Ok movie) command outcome = outcome ≡ Movie movie
-GivesInput (Err (Bad bad)) command outcome = outcome ≡ Refusal bad
-GivesInput (Err Missing) command outcome = outcome ≡ Absent command
-GivesInput (Err ReadFault) command outcome = Unit
-GivesInput (Err NoRoom) command outcome = Unit
+-- the bytes of the opened files, each at its number; none of a file that isn't told
+abbrev pub told_files : FolderState → List (List ℕ)
+told_files s = map (λ (file : OpenedFile). unwrap_or file.bytes []) s.opened
+
+-- the movie is one of opened files that are told, and stands for this outcome
+pub record IsOutcome (s : FolderState) (movie : PlacedMovie) (outcome : Outcome) : Type 0 where
+  pub stands : outcome ≡ Movie (stands_for (told_files s) movie)
+  pub told : AreTold s movie (told_files s)
+
+-- a movie, or what the input comes to instead, or a failed read, or want of memory
+abbrev pub GivesInput : {A : Type 0} → (A → PlacedMovie) → Result A InputFail → FolderState → Outcome → ℕ → Type 0
+GivesInput movie_in (Ok value) s outcome command = IsOutcome s (movie_in value) outcome
+GivesInput movie_in (Err (Bad bad)) s outcome command = outcome ≡ Refusal bad
+GivesInput movie_in (Err Missing) s outcome command = outcome ≡ Absent command
+GivesInput movie_in (Err ReadFault) s outcome command = Unit
+GivesInput movie_in (Err NoRoom) s outcome command = Unit
 
 -- the input was opened or not, the two counts are these, and all else is as it was
 pub record OpensInput (name : List ℕ) (old new : FolderState) (read_faults misses : ℕ) : Type 0 where
@@ -32,7 +43,7 @@ pub record OpensInput (name : List ℕ) (old new : FolderState) (read_faults mis
   pub state : new ≡ record old { opened = new.opened; read_faults = read_faults; misses = misses }
 
 -- only the count that is named for the answer rose
-abbrev pub ReadsInput : Result MovieRecord InputFail → List ℕ → FolderState → FolderState → Type 0
+abbrev pub ReadsInput : {A : Type 0} → Result A InputFail → List ℕ → FolderState → FolderState → Type 0
 ReadsInput (Err Missing) name old new = OpensInput name old new old.read_faults (after_fault old.misses)
 ReadsInput (Err ReadFault) name old new = OpensInput name old new (after_fault old.read_faults) old.misses
 ReadsInput _ name old new = OpensInput name old new old.read_faults old.misses

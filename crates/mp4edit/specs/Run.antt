@@ -3,16 +3,15 @@ use Rattle.std.specs.Prelude.{◌≡◌, ◌≢◌, ◌⊎◌, ℕ, true, false,
 use Rattle.mp_ports.specs.Count.{Rose}
 use Rattle.mp_ports.specs.Folder.{FolderState, HeldFile, OpenedFile, bytes_under}
 use Rattle.mp_ports.specs.Report.{ReportState, Says, FailsToSay}
-use Rattle.mp_timeline.specs.Movie.{MovieRecord}
-use Rattle.mp_movie.specs.Present.{present, Presents}
+use Rattle.mp_pieces.specs.Copied.{IsFront}
 use Rattle.mp_layout.specs.File.{file_bytes}
+use Rattle.mp_layout.specs.Plan.{IsFileOf}
 use Rattle.mp4edit.specs.declared.ending.Ending.{Ending}
 use Rattle.mp4edit.specs.declared.ending.Ending.TheVariants.{Done, Words, Refused, NoFile, ReadFault, WriteFault, ReportFault, NoMemory}
 use Rattle.mp_words.specs.Line.{WordFault}
 use Rattle.mp4edit.specs.Words.{JobRecord}
 use Rattle.mp4edit.specs.Outcome.{Outcome, Movie, Refusal, Absent, IsMovieAnd}
 use Rattle.mp4edit.specs.Line.{line}
-use Rattle.mp4edit.specs.Written.{IsFront}
 
 -- each fault has its cause: of the counts only the one of that kind rose, and the files held are the same
 pub record HasCauses (ending : Ending) (old new : FolderState) (before after : ReportState) : Type 0 where
@@ -49,12 +48,18 @@ AreInputs name held (file ∷ more ∷ rest) = ⊥
 abbrev pub CreatesNothing : FolderState → FolderState → Type 0
 CreatesNothing old new = (new.output ≡ None) × (new.written ≡ old.written)
 
--- what was created: the finished file at `Done` and `ReportFault`, at most an unfinished one at `WriteFault`, else nothing
+-- at most an unfinished file was created
+abbrev pub CreatesAtMost : List ℕ → FolderState → FolderState → Type 0
+CreatesAtMost name old new =
+    IfSome new.output (λ out. out ≡ record { name = name; finished = false }) × IfNone new.output (new.written ≡ old.written)
+
+-- what was created: the finished file at `Done` and `ReportFault`, at most an unfinished one at `ReadFault` and `WriteFault`,
+-- else nothing
 abbrev pub Leaves : Ending → List ℕ → FolderState → FolderState → Type 0
 Leaves Done name old new = new.output ≡ Some (record { name = name; finished = true })
 Leaves ReportFault name old new = new.output ≡ Some (record { name = name; finished = true })
-Leaves WriteFault name old new =
-    IfSome new.output (λ out. out ≡ record { name = name; finished = false }) × IfNone new.output (new.written ≡ old.written)
+Leaves ReadFault name old new = CreatesAtMost name old new
+Leaves WriteFault name old new = CreatesAtMost name old new
 Leaves _ name old new = CreatesNothing old new
 
 -- nothing was said, but at `Done` and `ReportFault`
@@ -63,18 +68,21 @@ SaysNothing Done before after = Unit
 SaysNothing ReportFault before after = Unit
 SaysNothing _ before after = after.said ≡ before.said
 
--- the written bytes, where the folder tells, are the whole file of the movie; read by the standard's definitions,
--- they present the movie exactly, and so the same movie
-abbrev pub IsWhole : Option (List ℕ) → MovieRecord → ℕ → Type 0
-IsWhole written movie window =
-    IfSome written (λ bytes. (bytes ≡ file_bytes movie window) × (present bytes ≡ Some movie) × Presents bytes movie)
+-- the written bytes, where the folder tells, are the whole file of the outcome's movie, which presents that movie
+abbrev pub HasWritten : Outcome → ℕ → FolderState → Type 0
+HasWritten outcome window new = IsMovieAnd outcome (λ movie. IfSome new.written (IsFileOf movie window))
+
+-- where a file was created, they are a front of it
+abbrev pub HasWrittenFront : Outcome → ℕ → FolderState → Type 0
+HasWrittenFront outcome window new =
+    IsMovieAnd outcome (λ movie. IfSome new.output (λ _. IfSome new.written (λ bytes. IsFront bytes (file_bytes movie window))))
 
 -- what an ending says of the job's outcome, and of the bytes that stand written
 abbrev pub Tells : Ending → Outcome → ℕ → FolderState → Type 0
-Tells Done outcome window new = IsMovieAnd outcome (λ movie. IsWhole new.written movie window)
-Tells ReportFault outcome window new = IsMovieAnd outcome (λ movie. IsWhole new.written movie window)
-Tells WriteFault outcome window new =
-    IsMovieAnd outcome (λ movie. IfSome new.output (λ _. IfSome new.written (λ bytes. IsFront bytes (file_bytes movie window))))
+Tells Done outcome window new = HasWritten outcome window new
+Tells ReportFault outcome window new = HasWritten outcome window new
+Tells ReadFault outcome window new = IfSome new.output (λ _. HasWrittenFront outcome window new)
+Tells WriteFault outcome window new = HasWrittenFront outcome window new
 Tells (Refused bad) outcome window new = outcome ≡ Refusal bad
 Tells (NoFile command) outcome window new = outcome ≡ Absent command
 Tells _ outcome window new = Unit

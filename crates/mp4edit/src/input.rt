@@ -1,19 +1,17 @@
-// The movie of a job: its input, opened and imported.
+// The movie of a job's input, opened and imported.
 ghost use Rattle.std.specs.Prelude.{◌≡◌, [], IfOk, IfSome};
 ghost use Rattle.mp_ports.specs.Folder.{bytes_under};
-ghost use Rattle.mp_movie.specs.Single.{IsSingle};
+ghost use Rattle.mp_layout.specs.Plan.{IsPlanOf};
 ghost use Rattle.mp4edit.specs.Outcome.{input_outcome, outcome};
 ghost use Rattle.mp4edit.specs.Reading.{GivesInput, ReadsInput};
+ghost use Rattle.mp4edit.specs.Written.{IsReady};
 
 use crate::words::BuiltJob;
 use adts_import::import_adts;
-use mp_layout::single_is_short;
-use mp_ports::{Bad, Code, Folder, OpenFail, ReadFail};
-use mp_timeline::PlainMovie;
+use mp_layout::{FilePlan, plan_file};
+use mp_movie::Movie;
+use mp_ports::{Bad, Fail, Folder, OpenFail, ReadFail};
 use std::alloc::Global;
-
-/// The longest input in bytes.
-const INPUT_LIMIT: u64 = 67_108_864;
 
 /// Why an input gives no movie.
 #[derive(Clone, Copy, Debug, PartialEq, Eq)]
@@ -24,21 +22,42 @@ pub enum InputFail {
     NoMemory,
 }
 
-/// The movie that the job writes, which is that of its input: it has a track, and isn't too long.
-#[tactic(auto, unfolding(crate::specs::Outcome::outcome))]
-pub fn read_movie<F: Folder>(
+/// Reads the job's input, and plans the file that is written of its movie.
+pub fn plan_job<F: Folder>(
     alloc: Global,
     folder: &mut F,
     job: &BuiltJob,
-) -> Result<PlainMovie, InputFail>
+) -> Result<(Movie, FilePlan), InputFail>
     requires opened { (F.state folder.old).opened ≡ [] }
     requires window { job.now.window ≡ 0 }
-    ensures movie { IfSome (F.state folder.old).held (λ files.
-        GivesInput result job.now.command (outcome job.now files)) }
-    ensures single { IfOk result (λ movie. IsSingle movie) }
+    ensures outcome { IfSome (F.state folder.old).held (λ files. GivesInput (λ planned. planned.0) result (F.state folder.new)
+        (outcome job.now files) job.now.command) }
+    ensures ready { IfOk result (λ planned. IsReady (F.state folder.new) planned.0) }
+    ensures plan { IfOk result (λ planned. IsPlanOf planned.1 planned.0) }
     ensures state { ReadsInput result job.now.input (F.state folder.old) (F.state folder.new) }
 {
-    single_is_short();
+    let movie = match read_movie(alloc, folder, job) {
+        Ok(movie) => movie,
+        Err(fail) => return Err(fail),
+    };
+    match plan_file(alloc, &movie) {
+        Ok(plan) => Ok((movie, plan)),
+        Err(Fail::Bad(bad)) => Err(InputFail::Bad(Bad {
+            command: job.out_command,
+            ..bad
+        })),
+        Err(Fail::NoMemory) => Err(InputFail::NoMemory),
+    }
+}
+
+/// The movie of the job's input.
+fn read_movie<F: Folder>(alloc: Global, folder: &mut F, job: &BuiltJob) -> Result<Movie, InputFail>
+    requires { (F.state folder.old).opened ≡ [] }
+    ensures movie { IfSome (F.state folder.old).held (λ files. GivesInput (λ movie. movie) result (F.state folder.new)
+        (input_outcome job.now.command (bytes_under job.now.input files)) job.now.command) }
+    ensures ready { IfOk result (IsReady (F.state folder.new)) }
+    ensures state { ReadsInput result job.now.input (F.state folder.old) (F.state folder.new) }
+{
     read_input(alloc, folder, &job.input, job.command)
 }
 
@@ -48,11 +67,11 @@ fn read_input<F: Folder>(
     folder: &mut F,
     name: &str,
     command: u32,
-) -> Result<PlainMovie, InputFail>
+) -> Result<Movie, InputFail>
     requires { (F.state folder.old).opened ≡ [] }
-    ensures movie { IfSome (F.state folder.old).held (λ files.
-        GivesInput result command (input_outcome command (bytes_under name.now files))) }
-    ensures single { IfOk result (λ movie. IsSingle movie) }
+    ensures movie { IfSome (F.state folder.old).held (λ files. GivesInput (λ movie. movie) result (F.state folder.new)
+        (input_outcome command (bytes_under name.now files)) command) }
+    ensures ready { IfOk result (IsReady (F.state folder.new)) }
     ensures state { ReadsInput result name.now (F.state folder.old) (F.state folder.new) }
 {
     let file = match folder.open(name) {
@@ -61,10 +80,6 @@ fn read_input<F: Folder>(
         Err(OpenFail::Failed) => return Err(InputFail::ReadFault),
         Err(OpenFail::NoMemory) => return Err(InputFail::NoMemory),
     };
-    if folder.size(file) > INPUT_LIMIT {
-        let bad = Bad::at(Code::InputLimit, 0);
-        return Err(InputFail::Bad(Bad { command, ..bad }));
-    }
     match import_adts(alloc, folder, file) {
         Ok(movie) => Ok(movie),
         Err(ReadFail::Bad(bad)) => Err(InputFail::Bad(Bad { command, ..bad })),

@@ -1,10 +1,8 @@
 // The line that is said of a file that was written.
 ghost use Rattle.std.specs.Prelude.{◌≡◌, ◌++◌, decimal, IfOk, OnOk};
-ghost use Rattle.mp4edit.specs.Line.{wrote, sample_count};
-ghost use Rattle.mp_movie.specs.Single.{IsSingle};
+ghost use Rattle.mp4edit.specs.Line.{wrote};
 
 use itoa::Buffer;
-use mp_timeline::PlainMovie;
 use std::alloc::{AllocError, Global};
 
 /// The line that tells of a file: its name, its tracks, all their samples, and its length in bytes.
@@ -13,7 +11,7 @@ pub fn wrote_line(
     alloc: Global,
     name: &str,
     tracks: usize,
-    samples: usize,
+    samples: u32,
     bytes: u64,
 ) -> Result<Vec<u8>, AllocError>
     ensures { IfOk result (λ line. line.items ≡ wrote name.now tracks samples bytes) }
@@ -23,7 +21,7 @@ pub fn wrote_line(
     line.extend_from_slice(b" tracks ")?;
     put_number(&mut line, tracks as u64)?;
     line.extend_from_slice(b" samples ")?;
-    put_number(&mut line, samples as u64)?;
+    put_number(&mut line, u64::from(samples))?;
     line.extend_from_slice(b" bytes ")?;
     put_number(&mut line, bytes)?;
     line.extend_from_slice(b"\n")?;
@@ -34,12 +32,4 @@ fn put_number(line: &mut Vec<u8>, n: u64) -> Result<(), AllocError>
     ensures { OnOk result (line.new.items ≡ line.old.items ++ decimal n) }
 {
     line.extend_from_slice(Buffer::new().format(n).as_bytes())
-}
-
-/// The samples of all tracks.
-pub fn sample_count(movie: &PlainMovie) -> usize
-    requires { IsSingle movie.now }
-    ensures { result ≡ sample_count movie.now }
-{
-    movie.tracks.iter().map(|track| track.samples.len()).sum()
 }

@@ -1,29 +1,39 @@
 // The output of a job, created, written and finished.
-ghost use Rattle.std.specs.Prelude.{◌≡◌, None, OnOk, OnErr, string_bytes};
-ghost use Rattle.mp_layout.specs.File.{file_bytes};
-ghost use Rattle.mp_layout.specs.Plan.{IsFilePlan};
-ghost use Rattle.mp4edit.specs.Written.{WritesWhole, StopsWriting};
+ghost use Rattle.std.specs.Prelude.{◌≡◌, ◌<◌, None, IsErrOf, OnOk, length, string_bytes};
+ghost use Rattle.mp_layout.specs.Plan.{IsPlanOf};
+ghost use Rattle.mp4edit.specs.Written.{IsReady, StopsReading, StopsWriting, WritesWhole};
 
 use mp_layout::{FilePlan, emit};
-use mp_ports::{Folder, PortFault};
-use mp_timeline::PlainMovie;
+use mp_movie::Movie;
+use mp_pieces::EmitFail;
+use mp_ports::Folder;
 
-/// Writes the planned file under the name, and finishes it.
+/// Writes the planned file under the name, through a window of any length but 0, and finishes it.
 pub fn write_file<F: Folder>(
     folder: &mut F,
     name: String,
     plan: &FilePlan,
-    movie: &PlainMovie,
-) -> Result<(), PortFault>
-    requires plan { IsFilePlan plan.now movie.now }
+    movie: &Movie,
+    window: &mut [u8],
+) -> Result<(), EmitFail>
+    requires ready { IsReady (F.state folder.old) movie.now }
+    requires plan { IsPlanOf plan.now movie.now }
     requires output { (F.state folder.old).output ≡ None }
-    ensures whole { OnOk result (WritesWhole (F.state folder.old) (F.state folder.new)
-        (string_bytes name) (file_bytes movie.now 0)) }
-    ensures failed { OnErr result (StopsWriting (F.state folder.old) (F.state folder.new)
-        (string_bytes name) (file_bytes movie.now 0)) }
+    requires window { 0 < length window.old }
+    ensures whole { OnOk result (WritesWhole (F.state folder.old) (F.state folder.new) (string_bytes name) movie.now) }
+    ensures read { IsErrOf result EmitFail.ReadFault
+        → StopsReading (F.state folder.old) (F.state folder.new) (string_bytes name) movie.now }
+    ensures write { IsErrOf result EmitFail.WriteFault
+        → StopsWriting (F.state folder.old) (F.state folder.new) (string_bytes name) movie.now }
 {
-    folder.create(name)?;
-    emit(plan, movie, folder)?;
-    folder.finish()?;
-    Ok(())
+    let Ok(()) = folder.create(name) else {
+        return Err(EmitFail::WriteFault);
+    };
+    if let Err(fail) = emit(plan, movie, folder, window) {
+        return Err(fail);
+    }
+    match folder.finish() {
+        Ok(()) => Ok(()),
+        Err(_) => Err(EmitFail::WriteFault),
+    }
 }

@@ -5,14 +5,17 @@ ghost use Rattle.mp4edit.specs.Outcome.{outcome};
 ghost use Rattle.mp4edit.specs.Run.{HasCauses, RaisesMisses, AnswersWords, IsUntouched, AreInputs, Leaves, SaysNothing, Tells, SaysLine, Completes};
 
 use crate::ending::Ending;
-use crate::input::{InputFail, read_movie};
-use crate::line::{sample_count, wrote_line};
+use crate::input::{InputFail, plan_job};
+use crate::line::wrote_line;
 use crate::output::write_file;
 use crate::words::read_job;
-use mp_layout::plan_file;
+use mp_pieces::EmitFail;
 use mp_ports::{Folder, Report};
 use mp_words::WordFail;
-use std::alloc::Global;
+use std::alloc::{AllocError, Global};
+
+/// How many bytes are copied at once.
+const WINDOW_LEN: usize = 65_536;
 
 /// Does all that a line of words asks for, over a folder and a report, and says how it ended.
 pub fn mp4edit<F: Folder, R: Report>(
@@ -55,8 +58,8 @@ pub fn mp4edit<F: Folder, R: Report>(
         Err(WordFail::Words { word, kind }) => return Ending::Words { word, kind },
         Err(WordFail::NoMemory) => return Ending::NoMemory,
     };
-    let movie = match read_movie(alloc, folder, &job) {
-        Ok(movie) => movie,
+    let (movie, plan) = match plan_job(alloc, folder, &job) {
+        Ok(planned) => planned,
         Err(InputFail::Missing) => {
             return Ending::NoFile {
                 command: job.command,
@@ -66,23 +69,32 @@ pub fn mp4edit<F: Folder, R: Report>(
         Err(InputFail::ReadFault) => return Ending::ReadFault,
         Err(InputFail::NoMemory) => return Ending::NoMemory,
     };
-    let Ok(plan) = plan_file(alloc, &movie) else {
-        return Ending::NoMemory;
-    };
     let Ok(line) = wrote_line(
         alloc,
         &job.out,
-        movie.tracks.len(),
-        sample_count(&movie),
+        movie.tracks().len(),
+        movie.samples(),
         plan.length,
     ) else {
         return Ending::NoMemory;
     };
-    if write_file(folder, job.out, &plan, &movie).is_err() {
-        return Ending::WriteFault;
+    let Ok(mut window) = new_window(alloc) else {
+        return Ending::NoMemory;
+    };
+    match write_file(folder, job.out, &plan, &movie, &mut window) {
+        Ok(()) => {}
+        Err(EmitFail::ReadFault) => return Ending::ReadFault,
+        Err(EmitFail::WriteFault) => return Ending::WriteFault,
     }
     if report.say(&line).is_err() {
         return Ending::ReportFault;
     }
     Ending::Done
+}
+
+/// The window through which the samples' bytes are copied.
+fn new_window(alloc: Global) -> Result<Vec<u8>, AllocError>
+    ensures { IfOk result (λ window. 0 < length window.items) }
+{
+    vec![in alloc; 0u8; WINDOW_LEN]
 }

@@ -306,19 +306,22 @@ fn what_is_refused_is_not_written(rt: HostRuntime) -> Result<(), Fail> {
     Ok(())
 }
 
-// A file of so many zeros.
-fn zeros(alloc: Global, len: usize) -> Result<Vec<u8>, Fail> {
-    Ok(vec![in alloc; 0u8; len]?)
-}
-
 #[test]
-fn an_input_of_more_than_64_mebibytes_is_refused(rt: HostRuntime) -> Result<(), Fail> {
+fn a_stream_of_more_than_64_mebibytes_is_written(rt: HostRuntime) -> Result<(), Fail> {
     let alloc = rt.alloc();
+    let mut frame = Vec::from_slice(alloc, b"\xFF\xF1\x50\x83\xFF\xFF\xFC")?;
+    frame.extend_from_slice(&[0xAA; 8184])?;
+    let mut bytes = Vec::new(alloc);
+    for _ in 0..8200 {
+        bytes.extend_from_slice(&frame)?;
+    }
     let line = words(alloc, &["-add", "a.aac", "-out", "b.mp4"])?;
-    let mut files = folder(alloc, zeros(alloc, 67_108_865)?, &[])?;
+    let mut files = folder(alloc, bytes, &[])?;
     let mut report = MemReport::new(alloc, Vec::new(alloc));
     let ending = mp4edit(alloc, &line, &mut files, &mut report);
-    assert_eq!(rt; ending, refused(Code::InputLimit, 0));
+    assert_eq!(rt; ending, Ending::Done);
+    assert!(rt; files.finished());
+    assert_eq!(rt; files.written().len(), 576 + 8200 * 8184);
     Ok(())
 }
 
@@ -343,15 +346,16 @@ fn each_call_of_the_folder_fails_in_turn(rt: HostRuntime) -> Result<(), Fail> {
     for (_, bytes) in ONE_FRAME_FILE {
         whole.extend_from_slice(bytes)?;
     }
-    // The calls are open, read, create, the front of the file, its sample, and finish.
+    // The calls are open, read, create, the front of the file, a read and a write of its sample, and finish.
     let rows = [
         (1, Ending::ReadFault, 0),
         (2, Ending::ReadFault, 0),
         (3, Ending::WriteFault, 0),
         (4, Ending::WriteFault, 288),
-        (5, Ending::WriteFault, 577),
-        (6, Ending::WriteFault, 578),
-        (7, Ending::Done, 578),
+        (5, Ending::ReadFault, 576),
+        (6, Ending::WriteFault, 577),
+        (7, Ending::WriteFault, 578),
+        (8, Ending::Done, 578),
     ];
     for (call, ending, written) in rows {
         let mut files = folder(alloc, FRAME.to_vec(alloc)?, &[call])?;
@@ -363,7 +367,7 @@ fn each_call_of_the_folder_fails_in_turn(rt: HostRuntime) -> Result<(), Fail> {
         assert_eq!(rt; files.written().len(), written, "call {call}");
         assert!(rt; whole.starts_with(files.written()), "call {call}");
         assert_eq!(rt; files.created(), call > 3, "call {call}");
-        assert_eq!(rt; files.finished(), call > 6, "call {call}");
+        assert_eq!(rt; files.finished(), call > 7, "call {call}");
     }
     Ok(())
 }

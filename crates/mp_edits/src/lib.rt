@@ -16,4 +16,4 @@ mod tests;
 pub use law::edits_are_read;
 pub use put::{edts_len, elst_len, push_edts, push_elst, put_elst};
 pub use read::read_elst;
-pub use segments::{shift, total};
+pub use segments::{capped_total, shift, some_start_late, total};

@@ -116,7 +116,7 @@ placing-longer law chunks wide others a b position grows =
 abbrev pub Within : List Bool → List Bool → Type 0
 Within wide others = (position : ℕ) → get_or wide position false ≡ true → get_or others position false ≡ true
 
-moov-longer : PlacesChangeNoLength → (movie : MovieRecord) (chunks : List Chunk) (wide others : List Bool) (a b : ℕ) → Within wide others
+pub moov-longer : PlacesChangeNoLength → (movie : MovieRecord) (chunks : List Chunk) (wide others : List Bool) (a b : ℕ) → Within wide others
     → length (box_bytes (moov movie chunks wide a)) ≤ length (box_bytes (moov movie chunks others b))
 moov-longer law movie chunks wide others a b grows =
     let tracks = traks-longer movie.scale (placing_at chunks wide a) (placing_at chunks others b) 0 movie.tracks (λ k. placing-longer law chunks wide others a b k (grows k)) in

@@ -16,13 +16,10 @@ mod ChunksAreFound
 mod PayloadIsShort
 mod SamplesAreFound
 mod EveryMovie
-mod SinglesAreSound
-mod PlainSamples
-mod OneTrack
-mod MoovIsShort
-mod Lens
-mod HeaderFields
+mod Containers
+mod TablesOfColumns
 mod OneChunk
 mod FrontIsPlanned
-mod Writing
+mod Emitting
 mod Examples
+mod TestTracks

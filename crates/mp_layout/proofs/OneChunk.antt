@@ -1,58 +1,165 @@
--- The boxes of a track that is shown as it is, by what is written of it.
-use Rattle.std.proofs.Common.{◌≡◌, ℕ, zero, suc, ℤ, pos, ◌+◌, ◌<◌, ◌^◌, false, List, [], ◌∷◌, All, map, length, codes, refl, sym, ap, ◌∙◌, append-nil, arith}
-use Rattle.std.specs.Prelude.{unsigned_abs}
-use Rattle.std.specs.Int.{w32, FitsUnsigned}
-use Rattle.std.specs.List.{flat_map}
-use Rattle.std.proofs.lemmas.Int.{ints}
-use Rattle.mp_boxes.specs.Field.{Part, container}
-use Rattle.mp_entries.specs.Description.{stsd}
-use Rattle.mp_times.specs.Written.{stts}
-use Rattle.mp_chunks.specs.declared.push.ChunkHead.{ChunkHead}
-use Rattle.mp_chunks.specs.Written.{chunk_offsets, runs_of, stsc, stsc_body, stsz}
+-- How a movie of one track and one entry stands in the file: in one chunk.
+use Rattle.std.proofs.Common.{◌≡◌, ◌≢◌, ℕ, ◌+◌, ◌-◌, ◌<◌, ◌≤◌, ◌^◌, Bool, true, false, List, [], ◌∷◌, ◌++◌, map, filter, length, get_or, ◌||◌, codes, if◌then◌else◌, nat_le, refl, sym, ap, ◌∙◌, arith, append_assoc, append-nil}
+use Rattle.std.proofs.lemmas.Bool.{eq-eqb, le-leb}
+use Rattle.std.specs.List.{flat_map, list_all, range_with_len, AllByRecursion}
+use Rattle.mp_headers.specs.MovieHeader.{mvhd}
 use Rattle.mp_timeline.specs.Movie.{SampleRecord, TrackRecord, MovieRecord}
-use Rattle.mp_movie.specs.Columns.{durations, sizes}
-use Rattle.mp_movie.specs.Single.{ArePlain, IsPlainTrack, IsSingle}
-use Rattle.mp_layout.specs.SingleTrack.{all_samples, chunk_at, one_chunk}
-use Rattle.mp_layout.specs.Tables.{stbl}
-use Rattle.mp_layout.proofs.OneTrack.{plain_stbl}
+use Rattle.mp_columns.specs.Stretch.{Stretch, items_of, in_front, stretches}
+use Rattle.mp_chunks.specs.Written.{PlacedChunk}
+use Rattle.mp_movie.specs.Columns.{sizes}
+use Rattle.mp_movie.specs.Durations.{greatest}
+use Rattle.mp_movie.specs.Heads.{movie_fields}
+use Rattle.mp_movie.specs.Placed.{PlacedMovie, PlacedTrack}
+use Rattle.mp_movie.specs.StandsFor.{stands_for, track_for}
+use Rattle.mp_layout.specs.Order.{Chunk, chunk_bytes, chunks_at, chunks_of, joined, payload, same_entry, window_chunks, window_of}
+use Rattle.mp_layout.specs.Tables.{Placing}
+use Rattle.mp_layout.specs.Moov.{moov, placing_at, trak, traks, with_user_data}
+use Rattle.mp_layout.specs.File.{is_closed, payload_place, sets_of, wide_tracks}
 
-fits32 : (n : ℕ) → n < 2 ^ 32 → FitsUnsigned w32 (pos n)
-fits32 n small = (omega (arith, ints), omega (arith, ints))
+-- ---- the chunks, in one window
 
-pub durations_fit : (decode : ℕ) (samples : List SampleRecord) → ArePlain decode samples → All (FitsUnsigned w32) (durations samples)
-durations_fit decode [] plain k d inside = absurd (omega arith)
-durations_fit decode (sample ∷ samples) plain zero d inside = fits32 sample.dur plain.4
-durations_fit decode (sample ∷ samples) plain (suc k) d inside = durations_fit (decode + sample.dur) samples plain.7 k d (omega arith)
+-- in one window all samples have window 0
+no_windows : (scale : ℕ) (samples : List SampleRecord) (rest : List ℕ) → greatest rest ≡ 0 → greatest (map (window_of 0 scale) samples ++ rest) ≡ 0
+no_windows scale [] rest none = none
+no_windows scale (sample ∷ samples) rest none = rw (no_windows scale samples rest none) refl
 
-pub sizes_fit : (decode : ℕ) (samples : List SampleRecord) → ArePlain decode samples → All (FitsUnsigned w32) (map pos (sizes samples))
-sizes_fit decode [] plain k d inside = absurd (omega arith)
-sizes_fit decode (sample ∷ samples) plain zero d inside = fits32 (length sample.bytes) plain.5
-sizes_fit decode (sample ∷ samples) plain (suc k) d inside = sizes_fit (decode + sample.dur) samples plain.7 k d (omega arith)
+one_window : (tracks : List TrackRecord) → greatest (flat_map (λ (track : TrackRecord). map (window_of 0 track.scale) track.samples) tracks) ≡ 0
+one_window [] = refl
+one_window (track ∷ tracks) = no_windows track.scale track.samples _ (one_window tracks)
 
-no_signs : (sizes : List ℕ) → map unsigned_abs (map pos sizes) ≡ sizes
-no_signs [] = refl
-no_signs (size ∷ sizes) = ap (λ (rest : List ℕ). size ∷ rest) (no_signs sizes)
+all_samples : (samples : List SampleRecord) → filter (λ (sample : SampleRecord). true) samples ≡ samples
+all_samples [] = refl
+all_samples (sample ∷ samples) = ap (λ (s : List SampleRecord). sample ∷ s) (all_samples samples)
 
--- the tables of these columns
-abbrev pub tables_of : List (List ℕ) → List ℤ → List ℤ → ChunkHead → List Part
-tables_of entries durations sizes head = stsd entries ∷ stts durations ∷ stsc (head ∷ []) ∷ stsz (map unsigned_abs sizes) ∷ chunk_offsets false (head ∷ []) ∷ []
+-- the chunks of tracks, the first at that position
+abbrev track_chunks : ℕ → List TrackRecord → List Chunk
+track_chunks position [] = []
+track_chunks position (track ∷ tracks) = map (λ samples. record { track = position; samples = samples }) (stretches same_entry track.samples) ++ track_chunks (position + 1) tracks
 
-abbrev tables_by : List (List ℕ) → List ℤ → List ℕ → ChunkHead → Part
-tables_by entries durations sizes head = container (codes "stbl") (stsd entries ∷ stts durations ∷ stsc (head ∷ []) ∷ stsz sizes ∷ chunk_offsets false (head ∷ []) ∷ [])
+window_is : (position : ℕ) (tracks : List TrackRecord) → window_chunks 0 0 position tracks ≡ track_chunks position tracks
+window_is position [] = refl
+window_is position (track ∷ tracks) = rw (all_samples track.samples, window_is (position + 1) tracks) refl
 
-tables-are : (a b : List (List ℕ)) (c d : List ℤ) (e f : List ℕ) (g h : ChunkHead) → a ≡ b → c ≡ d → e ≡ f → g ≡ h → tables_by a c e g ≡ tables_by b d f h
-tables-are a b c d e f g h p q r s = λ i. tables_by (p i) (q i) (r i) (s i)
+chunks_are : (movie : MovieRecord) → chunks_of 0 movie ≡ track_chunks 0 movie.tracks
+unfolding chunks_of
+chunks_are movie = rw (one_window movie.tracks, window_is 0 movie.tracks) (append-nil (track_chunks 0 movie.tracks))
 
-pub stbl-is : (track : TrackRecord) (place : ℕ) → IsPlainTrack track → (entries : List (List ℕ)) (durs szs : List ℤ) (head : ChunkHead) → entries ≡ track.entries → durs ≡ durations track.samples
-    → szs ≡ map pos (sizes track.samples) → head ≡ chunk_at track place → container (codes "stbl") (tables_of entries durs szs head) ≡ stbl track (one_chunk track place)
-stbl-is track place plain entries durs szs head e1 e2 e3 e4 =
-    let e5 : map unsigned_abs szs ≡ sizes track.samples = ap (map unsigned_abs) e3 ∙ no_signs (sizes track.samples) in
-    tables-are entries (track.entries) durs (durations track.samples) (map unsigned_abs szs) (sizes track.samples) head (chunk_at track place) e1 e2 e5 e4 ∙ sym (plain_stbl track (one_chunk track place) plain)
+-- ---- the payload
 
--- what `stsc` says does not depend on the place
-pub stsc-anywhere : (track : TrackRecord) (one other : ℕ) → stsc (chunk_at track one ∷ []) ≡ stsc (chunk_at track other ∷ [])
-unfolding stsc_body runs_of
-stsc-anywhere track one other = refl
+-- the samples of stretches are those of the list
+joined_front : (alike : SampleRecord → SampleRecord → Bool) (sample : SampleRecord) (rest : List (Stretch SampleRecord))
+    → flat_map (λ (s : Stretch SampleRecord). joined (items_of s)) (in_front alike sample rest) ≡ sample.bytes ++ flat_map (λ (s : Stretch SampleRecord). joined (items_of s)) rest
+joined_front alike sample [] = simp append-nil
+joined_front alike sample (next ∷ rest) = by_case (alike sample next.first)
+  where
+    by_case : (b : Bool) → flat_map (λ (s : Stretch SampleRecord). joined (items_of s)) (if b then record { first = sample; others = items_of next } ∷ rest else record { first = sample; others = [] } ∷ (next ∷ rest))
+        ≡ sample.bytes ++ flat_map (λ (s : Stretch SampleRecord). joined (items_of s)) (next ∷ rest)
+    by_case true = append_assoc sample.bytes (joined (items_of next)) (flat_map (λ (s : Stretch SampleRecord). joined (items_of s)) rest)
+    by_case false = simp append-nil
 
-pub single_samples : (movie : MovieRecord) (s : IsSingle movie) → all_samples movie ≡ s.track.samples
-single_samples movie s = ap (flat_map (λ (track : TrackRecord). track.samples)) s.one_track ∙ append-nil s.track.samples
+joined_stretches : (alike : SampleRecord → SampleRecord → Bool) (samples : List SampleRecord) → flat_map (λ (s : Stretch SampleRecord). joined (items_of s)) (stretches alike samples) ≡ joined samples
+joined_stretches alike [] = refl
+joined_stretches alike (sample ∷ samples) = joined_front alike sample (stretches alike samples) ∙ ap (λ (b : List ℕ). sample.bytes ++ b) (joined_stretches alike samples)
+
+chunks_joined : (position : ℕ) (stretches : List (Stretch SampleRecord)) (rest : List Chunk)
+    → flat_map chunk_bytes (map (λ samples. record { track = position; samples = samples }) stretches ++ rest) ≡ flat_map (λ (s : Stretch SampleRecord). joined (items_of s)) stretches ++ flat_map chunk_bytes rest
+chunks_joined position [] rest = refl
+chunks_joined position (first ∷ stretches) rest = rw (chunks_joined position stretches rest) (sym (append_assoc (joined (items_of first)) (flat_map (λ (s : Stretch SampleRecord). joined (items_of s)) stretches) (flat_map chunk_bytes rest)))
+
+tracks_joined : (position : ℕ) (tracks : List TrackRecord) → flat_map chunk_bytes (track_chunks position tracks) ≡ flat_map (λ (track : TrackRecord). joined track.samples) tracks
+tracks_joined position [] = refl
+tracks_joined position (track ∷ tracks) =
+    chunks_joined position (stretches same_entry track.samples) (track_chunks (position + 1) tracks) ∙ rw (joined_stretches same_entry track.samples, tracks_joined (position + 1) tracks) refl
+
+-- in one window the payload is the samples of each track, track after track
+pub payload_is : (movie : MovieRecord) → payload (chunks_of 0 movie) ≡ flat_map (λ (track : TrackRecord). joined track.samples) movie.tracks
+unfolding payload
+payload_is movie = rw (chunks_are movie) (tracks_joined 0 movie.tracks)
+
+-- ---- the one chunk
+
+-- what a movie of one track stands for
+pub one-for : (files : List (List ℕ)) (movie : PlacedMovie) (track : PlacedTrack) → movie.tracks ≡ track ∷ []
+    → (let whole : MovieRecord = record { scale = movie.scale; head = movie.head; tracks = track_for files track ∷ [] } in stands_for files movie ≡ whole)
+one-for files movie track one = λ i. record { scale = movie.scale; head = movie.head; tracks = map (track_for files) (one i) }
+
+-- one track, with at least one sample and all samples of one entry
+pub record IsSingle (movie : MovieRecord) : Type 0 where
+  pub track : TrackRecord
+  pub one_track : movie.tracks ≡ track ∷ []
+  pub some_samples : track.samples ≢ []
+  pub entry : ℕ
+  pub one_entry : AllByRecursion (λ sample. sample.entry ≡ entry) track.samples
+
+pub single_payload : (movie : MovieRecord) (s : IsSingle movie) → payload (chunks_of 0 movie) ≡ joined s.track.samples
+single_payload movie s = payload_is movie ∙ (ap (flat_map (λ (track : TrackRecord). joined track.samples)) s.one_track ∙ append-nil (joined s.track.samples))
+
+-- the samples are one stretch, of that entry
+record IsOneStretch (entry : ℕ) (samples : List SampleRecord) : Type 0 where
+  pub only : Stretch SampleRecord
+  pub stretches : stretches same_entry samples ≡ only ∷ []
+  pub items : items_of only ≡ samples
+  pub entry_is : only.first.entry ≡ entry
+
+one_stretch : (entry : ℕ) (sample : SampleRecord) (samples : List SampleRecord) → AllByRecursion (λ s. s.entry ≡ entry) (sample ∷ samples)
+    → stretches same_entry (sample ∷ samples) ≡ record { first = sample; others = samples } ∷ []
+one_stretch entry sample [] same = refl
+one_stretch entry sample (next ∷ rest) same = rw (one_stretch entry next rest same.1, same.0, same.1.0, eq-eqb entry entry refl) refl
+
+of_one_entry : (entry : ℕ) (samples : List SampleRecord) → samples ≢ [] → AllByRecursion (λ s. s.entry ≡ entry) samples → IsOneStretch entry samples
+of_one_entry entry [] some same = absurd (some refl)
+of_one_entry entry (sample ∷ samples) some same = record { only = record { first = sample; others = samples }; stretches = one_stretch entry sample samples same; items = refl; entry_is = same.0 }
+
+single_stretch : (movie : MovieRecord) (s : IsSingle movie) → IsOneStretch s.entry s.track.samples
+single_stretch movie s = of_one_entry s.entry s.track.samples s.some_samples s.one_entry
+
+single_chunk : (movie : MovieRecord) (s : IsSingle movie) (only : Stretch SampleRecord) → stretches same_entry s.track.samples ≡ only ∷ [] → chunks_of 0 movie ≡ record { track = 0; samples = only } ∷ []
+single_chunk movie s only is = chunks_are movie ∙ rw (s.one_track, is) refl
+
+-- the one chunk of a track, of that entry, at a place that is written in 32 bits
+abbrev pub one_chunk : ℕ → TrackRecord → ℕ → Placing
+one_chunk entry track place = record { chunks = record { place = place; entry = entry; sizes = sizes track.samples } ∷ []; wide = false }
+
+pub single_placing : (movie : MovieRecord) (s : IsSingle movie) (place : ℕ) → placing_at (chunks_of 0 movie) (false ∷ []) place 0 ≡ one_chunk s.entry s.track place
+single_placing movie s place =
+    let one = single_stretch movie s in
+    ap (λ (chunks : List Chunk). placing_at chunks (false ∷ []) place 0) (single_chunk movie s one.only one.stretches)
+    ∙ chunk_is place one.only.first.entry (items_of one.only) one.entry_is one.items
+  where
+    chunk_is : (place entry : ℕ) (samples : List SampleRecord) → entry ≡ s.entry → samples ≡ s.track.samples
+        → (let placing : Placing = record { chunks = record { place = place; entry = entry; sizes = sizes samples } ∷ []; wide = false } in placing ≡ one_chunk s.entry s.track place)
+    chunk_is place entry samples e1 e2 = λ i. record { chunks = record { place = place; entry = e1 i; sizes = sizes (e2 i) } ∷ []; wide = false }
+
+-- what the movie box has
+pub single_moov : (movie : MovieRecord) (s : IsSingle movie) (place : ℕ)
+    → moov movie (chunks_of 0 movie) (false ∷ []) place
+    ≡ with_user_data (codes "moov") (mvhd (movie_fields movie) ∷ trak movie.scale s.track (one_chunk s.entry s.track place) ∷ []) movie.head.udta
+single_moov movie s place =
+    let placing = placing_at (chunks_of 0 movie) (false ∷ []) place in
+    ap (λ (tracks : List TrackRecord). with_user_data (codes "moov") (mvhd (movie_fields movie) ∷ traks movie.scale placing 0 tracks) movie.head.udta) s.one_track
+    ∙ ap (λ (p : Placing). with_user_data (codes "moov") (mvhd (movie_fields movie) ∷ trak movie.scale s.track p ∷ []) movie.head.udta) (single_placing movie s place)
+
+-- ---- places of 32 bits
+
+-- with one chunk, whose place fits 32 bits, no track has places of 64 bits
+closed_one : (place : ℕ) (only : Stretch SampleRecord) → place < 2 ^ 32
+    → list_all (λ position. get_or (false ∷ []) position true || list_all (λ (chunk : PlacedChunk). nat_le chunk.place (2 ^ 32 - 1)) (chunks_at position place (record { track = 0; samples = only } ∷ []))) (range_with_len 0 1) ≡ true
+closed_one place only fits =
+    let low : place ≤ 2 ^ 32 - 1 = omega arith in
+    rw (le-leb place (2 ^ 32 - 1) low) refl
+
+least_one : (closed : List Bool → Bool) → closed (false ∷ []) ≡ true → map (λ position. list_all (λ (wide : List Bool). get_or wide position true) (filter closed (sets_of 1))) (range_with_len 0 1) ≡ false ∷ []
+least_one closed is = rw is refl
+
+pub single_wide : (movie : MovieRecord) (s : IsSingle movie) → payload_place movie (chunks_of 0 movie) (false ∷ []) < 2 ^ 32 → wide_tracks movie (chunks_of 0 movie) ≡ false ∷ []
+unfolding wide_tracks
+single_wide movie s fits =
+    let one = single_stretch movie s in
+    let chunks = chunks_of 0 movie in
+    let place = payload_place movie chunks (false ∷ []) in
+    let count : length movie.tracks ≡ 1 = ap length s.one_track in
+    let closed : is_closed movie chunks (false ∷ []) ≡ true =
+    ap (λ n. list_all (λ position. get_or (false ∷ []) position true || list_all (λ (chunk : PlacedChunk). nat_le chunk.place (2 ^ 32 - 1)) (chunks_at position place chunks)) (range_with_len 0 n)) count
+    ∙ (ap (λ (cs : List Chunk). list_all (λ position. get_or (false ∷ []) position true || list_all (λ (chunk : PlacedChunk). nat_le chunk.place (2 ^ 32 - 1)) (chunks_at position place cs)) (range_with_len 0 1)) (single_chunk movie s one.only one.stretches)
+    ∙ closed_one place one.only fits) in
+    ap (λ n. map (λ position. list_all (λ (wide : List Bool). get_or wide position true) (filter (is_closed movie chunks) (sets_of n))) (range_with_len 0 n)) count ∙ least_one (is_closed movie chunks) closed

@@ -4,8 +4,7 @@ use Rattle.mp_timeline.specs.Movie.{MovieRecord}
 use Rattle.mp_movie.specs.WellFormed.{IsWellFormed}
 use Rattle.mp_movie.specs.Limits.{Fits}
 use Rattle.mp_movie.specs.Present.{Presents, first_fault, present}
-use Rattle.mp_movie.specs.Single.{IsSingle}
-use Rattle.mp_layout.specs.File.{HasShortMoov, file_bytes, moov_fault}
+use Rattle.mp_layout.specs.File.{HasShortMoov, file_bytes}
 
 -- for each well-formed movie within the limits, its samples in windows of any length: no check of the file fails, and read by the
 -- standard's definitions it presents the movie exactly, and so the same movie
@@ -13,7 +12,3 @@ pub record FilesPresentMovies : Type 0 where
   pub sound : (movie : MovieRecord) (millis : ℕ) → IsWellFormed movie → Fits movie → HasShortMoov movie millis → first_fault (file_bytes movie millis) ≡ None
   pub exact : (movie : MovieRecord) (millis : ℕ) → IsWellFormed movie → Fits movie → HasShortMoov movie millis → present (file_bytes movie millis) ≡ Some movie
   pub same : (movie : MovieRecord) (millis : ℕ) → IsWellFormed movie → Fits movie → HasShortMoov movie millis → Presents (file_bytes movie millis) movie
-
--- a movie of one track that is shown as it is, in one window, isn't refused for its length
-abbrev pub SinglesAreShort : Type 0
-SinglesAreShort = (movie : MovieRecord) → IsSingle movie → moov_fault movie 0 ≡ None

@@ -4,6 +4,6 @@ pub mod Moov
 pub mod File
 pub mod Example
 pub mod Law
-pub mod SingleTrack
+pub mod Written
 pub mod Plan
-pub mod Window
+pub mod Emitted

@@ -4,7 +4,7 @@ ghost use Rattle.std.specs.Prelude.{◌≡◌, Some};
 ghost use Rattle.mp_movie.specs.Present.{present};
 ghost use Rattle.mp_layout.specs.Example.{example_file, example_movie};
 ghost use Rattle.mp_layout.specs.File.{file_bytes};
-ghost use Rattle.mp_layout.specs.Law.{FilesPresentMovies, SinglesAreShort};
+ghost use Rattle.mp_layout.specs.Law.{FilesPresentMovies};
 
 use mp_boxes::{boxes_are_read, boxes_have_lengths, heads_are_read, parts_are_read};
 use mp_chunks::{places_are_read, places_change_no_length};
@@ -31,14 +31,6 @@ pub fn file_presents_movie()
     places_are_read();
     places_change_no_length();
     same_movie_is_presented();
-}
-
-/// The `moov` of a movie of one track that is shown as it is, in one window, is short enough for a file.
-pub fn single_is_short()
-    ensures { SinglesAreShort }
-{
-    boxes_have_lengths();
-    places_change_no_length();
 }
 
 /// A file by hand, of two tracks in windows of a second, with edits, offsets below 0, sync marks, two entries

@@ -1,60 +1,47 @@
-// The file is appended to a folder.
-ghost use Rattle.std.specs.Prelude.{OnOk, OnErr};
-ghost use Rattle.mp_ports.specs.Folder.{IsWriting, Appends, FailsToAppend};
-ghost use Rattle.mp_layout.specs.Order.{joined};
-ghost use Rattle.mp_layout.specs.File.{file_bytes};
-ghost use Rattle.mp_layout.specs.Plan.{IsFilePlan};
-ghost use Rattle.mp_layout.specs.SingleTrack.{tracks_bytes};
+//! The file is appended to a folder.
+
+ghost use Rattle.std.specs.Prelude.{◌<◌, length, IsErrOf, OnOk};
+ghost use Rattle.mp_ports.specs.Folder.{IsWriting};
+ghost use Rattle.mp_pieces.specs.Copied.{sizes_of};
+ghost use Rattle.mp_movie.specs.StandsFor.{Hold};
+ghost use Rattle.mp_layout.specs.Emitted.{EmitsFile, StopsReading, StopsWriting};
+ghost use Rattle.mp_layout.specs.Plan.{IsPlanOf};
+ghost use Rattle.mp_layout.specs.Written.{IsOneChunk};
 
 use crate::plan::FilePlan;
-use crate::window::{blank, flush, gather};
-use mp_ports::{Folder, PortFault, appends_follow};
-use mp_timeline::{PlainMovie, PlainSample, PlainTrack};
+use mp_movie::{Movie, pieces_are_payload};
+use mp_pieces::{EmitFail, copy_pieces};
+use mp_ports::{Folder, appends_follow};
 
-/// Writes the planned file of the movie: its front in one piece, then the samples' bytes, gathered in a window.
+/// Writes the planned file of the movie: its front in one piece, then the samples' bytes, which are copied from
+/// the movie's files through a window of any length but 0.
 ///
-/// It takes no memory. Where an append fails, the folder has a front part of the file.
-pub fn emit<F: Folder>(file: &FilePlan, movie: &PlainMovie, folder: &mut F) -> Result<(), PortFault>
-    requires plan { IsFilePlan file.now movie.now }
-    requires writing { IsWriting (F.state folder.old) }
-    ensures written { OnOk result (Appends (F.state folder.old) (F.state folder.new) (file_bytes movie.now 0)) }
-    ensures failed { OnErr result (FailsToAppend (F.state folder.old) (F.state folder.new) (file_bytes movie.now 0)) }
-{
-    appends_follow();
-    folder.append(&file.front)?;
-    append_tracks(&movie.tracks, folder)?;
-    Ok(())
-}
-
-/// Appends the bytes of the samples of each track, track after track.
-fn append_tracks<F: Folder>(tracks: &[PlainTrack], folder: &mut F) -> Result<(), PortFault>
-    requires { IsWriting (F.state folder.old) }
-    ensures written { OnOk result (Appends (F.state folder.old) (F.state folder.new) (tracks_bytes tracks.now)) }
-    ensures failed { OnErr result (FailsToAppend (F.state folder.old) (F.state folder.new) (tracks_bytes tracks.now)) }
-{
-    appends_follow();
-    let mut window = blank();
-    for track in tracks {
-        append_samples(&track.samples, &mut window, folder)?;
-    }
-    Ok(())
-}
-
-/// Appends the bytes of the samples, in order, gathered in the window.
-fn append_samples<F: Folder>(
-    samples: &[PlainSample],
-    window: &mut [u8],
+/// It takes no memory. A fault leaves a front part of the file: `ReadFault` where a read failed, `WriteFault`
+/// where an append did.
+pub fn emit<F: Folder>(
+    file: &FilePlan,
+    movie: &Movie,
     folder: &mut F,
-) -> Result<(), PortFault>
-    requires { IsWriting (F.state folder.old) }
-    ensures written { OnOk result (Appends (F.state folder.old) (F.state folder.new) (joined samples.now)) }
-    ensures failed { OnErr result (FailsToAppend (F.state folder.old) (F.state folder.new) (joined samples.now)) }
+    window: &mut [u8],
+) -> Result<(), EmitFail>
+    requires one_chunk { IsOneChunk movie.now }
+    requires plan { IsPlanOf file.now movie.now }
+    requires held { Hold (sizes_of (F.state folder.old)) movie.now }
+    requires writing { IsWriting (F.state folder.old) }
+    requires window { 0 < length window.old }
+    ensures written { OnOk result (EmitsFile (F.state folder.old) (F.state folder.new) movie.now) }
+
+    // A fault leaves a front of the file, and only the count that is named for it rose.
+    ensures read { IsErrOf result EmitFail.ReadFault
+        → StopsReading (F.state folder.old) (F.state folder.new) movie.now }
+    ensures write { IsErrOf result EmitFail.WriteFault
+        → StopsWriting (F.state folder.old) (F.state folder.new) movie.now }
 {
     appends_follow();
-    let mut held = 0;
-    for sample in samples {
-        held = gather(window, held, &sample.bytes, folder)?;
+    pieces_are_payload();
+    let track = &movie.tracks()[0];
+    match folder.append(&file.front) {
+        Ok(()) => copy_pieces(folder, &track.pieces, window),
+        Err(_) => Err(EmitFail::WriteFault),
     }
-    let left = &window[..held];
-    flush(left, folder)
 }

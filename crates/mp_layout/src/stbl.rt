@@ -1,61 +1,52 @@
-// The sample table box of a track that is shown as it is, whose samples are one chunk.
-ghost use Rattle.std.specs.Prelude.{◌≡◌, ℕ};
-ghost use Rattle.mp_boxes.specs.Field.{box_bytes};
-ghost use Rattle.mp_boxes.specs.Push.{IsPushed};
-ghost use Rattle.mp_boxes.specs.Table.{HasLen};
-ghost use Rattle.mp_movie.specs.Single.{IsPlainTrack};
-ghost use Rattle.mp_layout.specs.SingleTrack.{chunk_at, columns_of, one_chunk};
-ghost use Rattle.mp_layout.specs.Tables.{stbl};
+//! The sample table box of a track (ISO/IEC 14496-12, 8.5.1), from the track's columns.
 
-use crate::columns::Columns;
+ghost use Rattle.mp_movie.specs.CanBeWritten.{CanBeWritten};
+ghost use Rattle.mp_layout.specs.Tables.{stbl};
+ghost use Rattle.mp_layout.specs.Written.{BoxHasLen, BoxIsPushed, CanBePlaced};
+
 use mp_boxes::{begin_box, box_len, sum_len};
 use mp_chunks::{
-    ChunkHead, chunk_offsets_len, push_chunk_offsets, push_stsc, push_stsz, stsc_len, stsz_len,
+    ChunkHead, chunk_offsets_len, places_change_no_length, push_chunk_offsets, push_stsc,
+    push_stsz, stsc_len, stsz_len,
 };
 use mp_entries::{push_stsd, stsd_len};
-use mp_timeline::PlainTrack;
-use mp_times::{push_stts, stts_len};
+use mp_movie::{Track, columns_are_kept};
+use mp_times::{ctts_len, push_ctts, push_stss, push_stts, stss_len, stts_len};
 
-/// The chunk of all samples, of entry 1.
-fn chunk_at(track: &PlainTrack, place: u32) -> ChunkHead
-    requires { IsPlainTrack track.now }
-    ensures { result ≡ chunk_at track.now place }
+/// The length of the box `stbl` of a track whose samples stand in these chunks.
+pub fn stbl_len(track: &Track, chunks: &[ChunkHead], wide: bool) -> u64
+    requires track { CanBeWritten track.now }
+    requires chunks { CanBePlaced chunks.now wide }
+    ensures { BoxHasLen result stbl track.now chunks.now wide }
 {
-    ChunkHead {
-        place: u64::from(place),
-        samples: track.samples.len() as u32,
-        entry: 1,
-    }
-}
-
-/// The length of the box `stbl`, wherever the chunk stands.
-pub fn stbl_len(track: &PlainTrack, columns: &Columns) -> u64
-    requires plain { IsPlainTrack track.now }
-    requires columns { columns.now ≡ columns_of track.now.samples }
-    ensures { (place : ℕ) → HasLen result (stbl track.now (one_chunk track.now place)) }
-{
-    let chunk = chunk_at(track, 0);
+    columns_are_kept();
+    places_change_no_length();
     let lens = [
         stsd_len(&track.entries),
-        stts_len(&columns.durations),
-        stsc_len(&[chunk]),
-        stsz_len(&columns.sizes),
-        chunk_offsets_len(1, false),
+        stts_len(&track.deltas),
+        ctts_len(&track.offsets),
+        stss_len(&track.syncs),
+        stsc_len(chunks),
+        stsz_len(&track.sizes),
+        chunk_offsets_len(chunks.len() as u32, wide),
     ];
     box_len(&[], sum_len(&lens))
 }
 
-/// Pushes the box `stbl`, where the chunk stands at the place.
-pub fn push_stbl(track: &PlainTrack, columns: &Columns, place: u32, out: &mut Vec<u8>)
-    requires plain { IsPlainTrack track.now }
-    requires columns { columns.now ≡ columns_of track.now.samples }
-    ensures { IsPushed out.old out.new (box_bytes (stbl track.now (one_chunk track.now place))) }
+/// Pushes that box, which has `len` bytes.
+pub fn push_stbl(track: &Track, chunks: &[ChunkHead], wide: bool, len: u64, out: &mut Vec<u8>)
+    requires track { CanBeWritten track.now }
+    requires chunks { CanBePlaced chunks.now wide }
+    requires len { BoxHasLen len stbl track.now chunks.now wide }
+    ensures { BoxIsPushed out.old out.new stbl track.now chunks.now wide }
 {
-    let chunk = chunk_at(track, place);
-    begin_box(out, *b"stbl", &[], stbl_len(track, columns));
+    columns_are_kept();
+    begin_box(out, *b"stbl", &[], len);
     push_stsd(out, &track.entries);
-    push_stts(&columns.durations, out);
-    push_stsc(&[chunk], out);
-    push_stsz(&columns.sizes, out);
-    push_chunk_offsets(&[chunk], false, out);
+    push_stts(&track.deltas, out);
+    push_ctts(&track.offsets, out);
+    push_stss(&track.syncs, out);
+    push_stsc(chunks, out);
+    push_stsz(&track.sizes, out);
+    push_chunk_offsets(chunks, wide, out);
 }

@@ -1,15 +1,21 @@
-//! Files box by box, each byte by hand from the tables of ISO/IEC 14496-12; the pieces in which they are
-//! appended.
-ghost use Rattle.std.specs.Prelude.{◌≡◌, ◌≢◌, ◌∷◌, [], ◌≤◌, ◌<◌, ◌^◌, length, codes, IfOk};
-ghost use Rattle.mp_entries.specs.Entry.{IsEntry};
+//! Files box by box, each byte by hand from the tables of ISO/IEC 14496-12; what stands of them where a call of the
+//! folder fails.
+ghost use Rattle.std.specs.Prelude.{◌≡◌, ◌≢◌, ◌≤◌, ◌<◌, ◌^◌, pos, [], ◌∷◌, All, IfOk, None, codes, length};
 ghost use Rattle.mp_boxes.specs.Boxes.{IsBytes};
-ghost use Rattle.mp_movie.specs.Single.{ArePlain, IsMovieHead, IsSingle, IsTrackHead};
+ghost use Rattle.mp_entries.specs.Entry.{IsEntry};
+ghost use Rattle.mp_pieces.specs.Copied.{sizes_of};
+ghost use Rattle.mp_pieces.specs.Piece.{IsHeld};
+ghost use Rattle.mp_movie.specs.Placed.{plain_scale};
+ghost use Rattle.mp_movie.specs.WholeParts.{AreTrackParts};
+ghost use Rattle.mp_layout.specs.Written.{IsOneChunk};
 
 use super::*;
+use mp_columns::Column;
 use mp_entries::{EsdsEntry, esds_entry};
-use mp_movie::plain_heads_fit;
-use mp_ports::{Folder, MemFolder};
-use mp_timeline::{EntryBytes, MovieHead, PlainMovie, PlainSample, PlainTrack, TrackHead};
+use mp_movie::{Movie, Piece, Track, a_sample_follows, pieces_len, plain_heads_fit};
+use mp_pieces::EmitFail;
+use mp_ports::{Folder, MemFile, MemFolder};
+use mp_timeline::{EntryBytes, TrackHead};
 use std::alloc::{AllocError, Global};
 use std::process::Abort;
 use std::test::Fail;
@@ -53,6 +59,9 @@ const STSD: &[u8] = b"\x00\x00\x00\x5bstsd\x00\x00\x00\x00\x00\x00\x00\x01\
   \xac\x44\x00\x00\x00\x00\x00\x27esds\x00\x00\x00\x00\
   \x03\x19\x00\x00\x00\x04\x11\x40\x15\x00\x00\x00\x00\x00\x00\x00\
   \x00\x00\x00\x00\x05\x02\x12\x10\x06\x01\x02";
+
+// A box of user data with two bytes (8.10.1).
+const USER_DATA: &[u8] = b"\x00\x00\x00\x0audta\x01\x02";
 
 const ONE_FRAME: [&[u8]; 25] = [
     FTYP,
@@ -125,6 +134,48 @@ const TWO_SIZES: [&[u8]; 25] = [
     b"\x00\x00\x00\x0dmdat\xaa\xbb\xaa\xbb\xcc",
 ];
 
+const UNITS: [&[u8]; 28] = [
+    FTYP,
+    b"\x00\x00\x02\x66moov",
+    MVHD,
+    b"\x00\x00\x00\x45",
+    PLAYED,
+    b"\x00\x00\x00\x02",
+    b"\x00\x00\x01\xf2trak",
+    TKHD,
+    b"\x00\x00\x00\x01\x00\x00\x00\x00\x00\x00\x00\x45\x00\x00\x00\x00\
+      \x00\x00\x00\x00\x00\x00\x00\x00\x00\x00\x00\x00",
+    MATRIX,
+    b"\x00\x00\x00\x00\x00\x00\x00\x00",
+    b"\x00\x00\x01\x84mdia",
+    MDHD,
+    b"\x00\x00\x07\xd0\x55\xc4\x00\x00",
+    b"\x00\x00\x00\x21hdlr\x00\x00\x00\x00\x00\x00\x00\x00\
+      vide\x00\x00\x00\x00\x00\x00\x00\x00\x00\x00\x00\x00\
+      \x00",
+    b"\x00\x00\x01\x3bminf",
+    b"\x00\x00\x00\x14vmhd\x00\x00\x00\x01\x00\x00\x00\x00\
+      \x00\x00\x00\x00",
+    DINF,
+    b"\x00\x00\x00\xfbstbl",
+    STSD,
+    b"\x00\x00\x00\x18stts\x00\x00\x00\x00\x00\x00\x00\x01\
+      \x00\x00\x00\x02\x00\x00\x03\xe8",
+    b"\x00\x00\x00\x20ctts\x00\x00\x00\x00\x00\x00\x00\x02\
+      \x00\x00\x00\x01\x00\x00\x07\xd0\x00\x00\x00\x01\x00\x00\x00\x00",
+    b"\x00\x00\x00\x14stss\x00\x00\x00\x00\x00\x00\x00\x01\
+      \x00\x00\x00\x01",
+    b"\x00\x00\x00\x1cstsc\x00\x00\x00\x00\x00\x00\x00\x01\
+      \x00\x00\x00\x01\x00\x00\x00\x02\x00\x00\x00\x01",
+    b"\x00\x00\x00\x1cstsz\x00\x00\x00\x00\x00\x00\x00\x00\
+      \x00\x00\x00\x02\x00\x00\x00\x06\x00\x00\x00\x0b",
+    b"\x00\x00\x00\x14stco\x00\x00\x00\x00\x00\x00\x00\x01\
+      \x00\x00\x02\x8a",
+    USER_DATA,
+    b"\x00\x00\x00\x19mdat\x00\x00\x00\x02\xaa\xbb\
+      \x00\x00\x00\x01\xcc\x00\x00\x00\x02\x01\x02",
+];
+
 // Each table behind a function, so that only that function's proof reads it.
 fn one_frame() -> &'static [&'static [u8]] {
     &ONE_FRAME
@@ -132,21 +183,6 @@ fn one_frame() -> &'static [&'static [u8]] {
 
 fn two_sizes() -> &'static [&'static [u8]] {
     &TWO_SIZES
-}
-
-fn movie_head(alloc: Global) -> MovieHead
-    ensures { IsMovieHead result }
-{
-    plain_heads_fit();
-    MovieHead::plain(alloc)
-}
-
-fn track_head(alloc: Global, handler: [u8; 4]) -> Result<TrackHead, AllocError>
-    requires { handler ≢ codes "hint" }
-    ensures { IfOk result (λ head. IsTrackHead head) }
-{
-    plain_heads_fit();
-    TrackHead::plain(alloc, handler)
 }
 
 fn entry(alloc: Global) -> Result<EntryBytes, AllocError>
@@ -174,212 +210,290 @@ fn are_bytes(bytes: &[u8])
     ensures { IsBytes bytes.now }
 {}
 
-// A frame of 1024 ticks.
-fn sample(alloc: Global, frame: &[u8], decode: u32) -> Result<PlainSample, AllocError>
-    ensures plain { IfOk result (λ sample. ArePlain decode (sample ∷ [])) }
-    ensures dur { IfOk result (λ sample. sample.dur ≡ 1024) }
-{
-    let _fits = u32::try_from(frame.len()).map_err(|_| AllocError)?;
-    Ok(PlainSample {
-        bytes: Vec::from_slice(alloc, frame)?,
-        decode: u64::from(decode),
-        dur: 1024,
-        comp: i64::from(decode),
-        sync: true,
-        entry: 1,
-    })
+fn units() -> &'static [&'static [u8]] {
+    &UNITS
 }
 
-// The frames, one after another.
-fn samples_of(alloc: Global, frames: &[Vec<u8>]) -> Result<Vec<PlainSample>, AllocError>
-    requires { length frames.now ≤ 1000 }
-    ensures plain { IfOk result (λ samples. ArePlain 0 samples.items) }
-    ensures count { IfOk result (λ samples. length samples.items ≡ length frames.now) }
-{
-    let mut samples = Vec::new(alloc);
-    let mut decode = 0;
-    for frame in frames {
-        samples.push(sample(alloc, frame, decode)?)?;
-        decode += 1024;
-    }
-    Ok(samples)
-}
-
-// A movie of 1000 ticks a second with a track of this handler and number, of these frames at 44,100 ticks a second.
-fn movie(
-    alloc: Global,
-    handler: [u8; 4],
-    number: u32,
-    frames: &[Vec<u8>],
-) -> Result<PlainMovie, AllocError>
+// A track of this handler and number, at 44,100 ticks a second, without samples.
+fn bare(alloc: Global, handler: [u8; 4], number: u32) -> Result<Track, AllocError>
     requires not_hint { handler ≢ codes "hint" }
     requires number { 1 ≤ number }
-    requires some { 1 ≤ length frames.now }
-    requires few { length frames.now ≤ 1000 }
-    ensures { IfOk result (λ movie. IsSingle movie) }
+    ensures parts { IfOk result (λ track. AreTrackParts plain_scale track) }
+    ensures entries { IfOk result (λ track. length track.entries ≡ 1) }
+    ensures none { IfOk result (λ track. track.kinds ≡ []) }
 {
-    let samples = samples_of(alloc, frames)?;
+    plain_heads_fit();
+    let head = TrackHead::plain(alloc, handler)?;
     let mut entries = Vec::new(alloc);
     entries.push(entry(alloc)?)?;
-    let mut tracks = Vec::new(alloc);
-    tracks.push(PlainTrack {
-        number,
-        head: track_head(alloc, handler)?,
-        scale: 44_100,
-        entries,
-        samples,
-        edits: None,
-    })?;
-    Ok(PlainMovie {
-        scale: 1000,
-        head: movie_head(alloc),
-        tracks,
-    })
+    Ok(Track::new(alloc, number, head, 44_100, entries))
 }
 
-// What is appended of the file of the movie to a folder whose call of this number fails, and whether all
-// is; and the length in the plan.
-fn written_of(
-    alloc: Global,
-    movie: &PlainMovie,
-    failing: u64,
-) -> Result<(MemFolder, bool, u64), AllocError>
-    requires { IsSingle movie.now }
+// The bytes of a box of user data.
+fn user_data(alloc: Global) -> Result<Vec<u8>, AllocError>
+    ensures { IfOk result (λ udta. udta.items ≡ 0 ∷ 0 ∷ 0 ∷ 10 ∷ 117 ∷ 100 ∷ 116 ∷ 97 ∷ 1 ∷ 2 ∷ []) }
 {
-    let plan = plan_file(alloc, movie).map_err(|_| AllocError)?;
-    let mut folder = MemFolder::new(alloc, Vec::new(alloc), Vec::from_slice(alloc, &[failing])?);
-    let name = String::from_str(alloc, "b.mp4")?;
-    folder.create(name).map_err(|_| AllocError)?;
-    let whole = emit(&plan, movie, &mut folder).is_ok();
-    Ok((folder, whole, plan.length))
+    Ok(Vec::from_slice(alloc, USER_DATA)?)
 }
 
-// Frames of these sizes, each filled with its number.
-fn frames_of(alloc: Global, sizes: &[usize]) -> Result<Vec<Vec<u8>>, AllocError> {
-    let mut frames = Vec::new(alloc);
-    let mut byte: u8 = 0;
-    for &size in sizes {
-        let mut frame = Vec::new(alloc);
-        frame.resize(size, byte)?;
-        frames.push(frame)?;
-        byte = byte.wrapping_add(1);
+// The track with user data.
+fn with_user_data(alloc: Global, mut track: Track) -> Result<Track, AllocError>
+    requires parts { AreTrackParts plain_scale track }
+    requires entries { length track.entries ≡ 1 }
+    requires kinds { All (λ kind. kind ≡ pos 1) track.kinds }
+    requires some { 0 < length track.deltas }
+    ensures parts { IfOk result (λ track. AreTrackParts plain_scale track) }
+    ensures kinds { IfOk result (λ track. All (λ kind. kind ≡ pos 1) track.kinds) }
+    ensures some { IfOk result (λ track. 0 < length track.deltas) }
+{
+    let udta = user_data(alloc)?;
+    track.head.udta = udta;
+    Ok(track)
+}
+
+// The track with one sample more.
+fn with_sample(
+    rt: &impl Abort,
+    mut track: Track,
+    delta: u32,
+    offset: i64,
+    sync: bool,
+    pieces: &[Piece],
+) -> Result<Track, AllocError>
+    requires parts { AreTrackParts plain_scale track }
+    requires entries { length track.entries ≡ 1 }
+    requires kinds { All (λ kind. kind ≡ pos 1) track.kinds }
+    ensures parts { IfOk result (λ track. AreTrackParts plain_scale track) }
+    ensures entries { IfOk result (λ track. length track.entries ≡ 1) }
+    ensures kinds { IfOk result (λ track. All (λ kind. kind ≡ pos 1) track.kinds) }
+    ensures some { IfOk result (λ track. 0 < length track.deltas) }
+{
+    a_sample_follows();
+    assert!(rt; track.deltas.len() < 1000);
+    assert!(rt; pieces_len(pieces) < 1 << 40);
+    match track.push_sample(delta, offset, sync, 1, pieces) {
+        Ok(()) => Ok(track),
+        Err(_) => Err(AllocError),
     }
-    Ok(frames)
 }
 
-// The file of these frames is these pieces, one after another, and so long.
+// The movie of this track, of 1000 ticks a second.
+fn movie_of(alloc: Global, track: Track) -> Result<Movie, AllocError>
+    requires parts { AreTrackParts plain_scale track }
+    requires kinds { All (λ kind. kind ≡ pos 1) track.kinds }
+    requires some { 0 < length track.deltas }
+    ensures { IfOk result (λ movie. IsOneChunk movie) }
+{
+    match Movie::from_track(alloc, track) {
+        Ok(movie) => Ok(movie),
+        Err(_) => Err(AllocError),
+    }
+}
+
+// So many bytes of the file of that number from a place on.
+fn piece(file: u32, from: u64, len: u32) -> Piece {
+    Piece {
+        file,
+        from,
+        len,
+        prefix: None,
+    }
+}
+
+// The same behind four bytes that state how many they are.
+fn unit(file: u32, from: u64, len: u32) -> Piece {
+    Piece {
+        prefix: Some(len),
+        ..piece(file, from, len)
+    }
+}
+
+// Two files, opened, in a folder whose call of this number fails.
+fn folder_of(alloc: Global, failing: u64) -> Result<MemFolder, AllocError>
+    ensures opened { IfOk result (λ folder. length folder.folder.opened ≡ 2) }
+    ensures output { IfOk result (λ folder. folder.folder.output ≡ None) }
+{
+    let mut files = Vec::new(alloc);
+    files.push(MemFile {
+        name: String::from_str(alloc, "a")?,
+        bytes: Vec::from_slice(alloc, b"\xaa\xbb\xcc\xdd\xee")?,
+    })?;
+    files.push(MemFile {
+        name: String::from_str(alloc, "b")?,
+        bytes: Vec::from_slice(alloc, b"\x01\x02")?,
+    })?;
+    let mut folder = MemFolder::new(alloc, files, Vec::from_slice(alloc, &[failing])?);
+    folder.open("a").map_err(|_| AllocError)?;
+    folder.open("b").map_err(|_| AllocError)?;
+    Ok(folder)
+}
+
+// Each piece lies in one of so many opened files.
+fn check_held<F: Folder>(rt: &impl Abort, folder: &F, files: u32, pieces: &[Piece])
+    requires { files ≤ length (F.state folder.now).opened }
+    ensures { All (IsHeld (sizes_of (F.state folder.now))) pieces.now }
+{
+    for &piece in pieces {
+        assert!(rt; piece.file < files);
+        let size = folder.size(piece.file);
+        assert!(rt; u64::from(piece.len) <= size);
+        assert!(rt; piece.from <= size - u64::from(piece.len));
+    }
+}
+
+// What stands of the movie's file, copied through a window of so many bytes, where the folder's call of this
+// number fails; and the length in the plan.
+fn written_of(
+    rt: &impl Abort,
+    alloc: Global,
+    movie: &Movie,
+    room: usize,
+    failing: u64,
+) -> Result<(MemFolder, Result<(), EmitFail>, u64), AllocError>
+    requires { IsOneChunk movie.now }
+{
+    let Ok(plan) = plan_file(alloc, movie) else {
+        return Err(AllocError);
+    };
+    let mut folder = folder_of(alloc, failing)?;
+    let track = &movie.tracks()[0];
+    check_held(rt, &folder, 2, &track.pieces);
+    let name = String::from_str(alloc, "b.mp4")?;
+    let Ok(()) = folder.create(name) else {
+        return Err(AllocError);
+    };
+    let mut window = Vec::new(alloc);
+    window.resize(room, 0)?;
+    assert!(rt; !window.is_empty());
+    let result = emit(&plan, movie, &mut folder, &mut window);
+    Ok((folder, result, plan.length))
+}
+
+// The file of the movie is these pieces, one after another, and so long, whatever the window.
 fn check_file(
     rt: &impl Abort,
     alloc: Global,
-    movie: &PlainMovie,
+    movie: &Movie,
     pieces: &[&[u8]],
     len: u64,
 ) -> Result<(), AllocError>
-    requires { IsSingle movie.now }
+    requires { IsOneChunk movie.now }
 {
-    let (folder, whole, planned) = written_of(alloc, movie, 0)?;
-    assert!(rt; whole);
-    assert_eq!(rt; planned, len);
-    let mut rest = folder.written();
-    for (at, piece) in pieces.iter().enumerate() {
-        let after = rest.strip_prefix(*piece);
-        assert!(rt; after.is_some(), "piece {at}");
-        rest = after.unwrap_or(b"");
+    for room in [1, 2, 3, 7, 65_536] {
+        let (folder, result, planned) = written_of(rt, alloc, movie, room, 0)?;
+        assert!(rt; result.is_ok());
+        assert_eq!(rt; planned, len);
+        let mut rest = folder.written();
+        for (at, piece) in pieces.iter().enumerate() {
+            let after = rest.strip_prefix(*piece);
+            assert!(rt; after.is_some(), "piece {at}");
+            rest = after.unwrap_or(b"");
+        }
+        assert_eq!(rt; rest.len(), 0);
     }
-    assert_eq!(rt; rest.len(), 0);
+    Ok(())
+}
+
+// Where one call of the folder behind `create` fails, a front of the file stands, and the fault is named; where
+// none does, the whole file.
+fn check_faults(
+    rt: &impl Abort,
+    alloc: Global,
+    movie: &Movie,
+    room: usize,
+) -> Result<(), AllocError>
+    requires { IsOneChunk movie.now }
+{
+    let (whole, result, _) = written_of(rt, alloc, movie, room, 0)?;
+    assert!(rt; result.is_ok());
+    let mut reads: u64 = 0;
+    let mut writes: u64 = 0;
+    for call in 4..64 {
+        let (folder, result, _) = written_of(rt, alloc, movie, room, call)?;
+        let written = folder.written();
+        assert!(rt; whole.written().starts_with(written), "call {call}");
+        match result {
+            Ok(()) => assert_eq!(rt; written.len(), whole.written().len()),
+            Err(EmitFail::ReadFault) => reads = reads.wrapping_add(1),
+            Err(EmitFail::WriteFault) => writes = writes.wrapping_add(1),
+        }
+        assert!(rt;
+            result.is_ok() || written.len() < whole.written().len(),
+            "call {call}"
+        );
+    }
+    assert!(rt; reads > 0);
+    assert!(rt; writes > 0);
     Ok(())
 }
 
 #[test]
 fn files_byte_by_byte(rt: HostRuntime) -> Result<(), Fail> {
     let alloc = rt.alloc();
-    let one = [Vec::from_slice(alloc, b"\xaa\xbb")?];
-    let sound = movie(alloc, *b"soun", 1, &one)?;
+    let sound = bare(alloc, *b"soun", 1)?;
+    let sound = with_sample(&rt, sound, 1024, 0, true, &[piece(0, 0, 2)])?;
+    let sound = movie_of(alloc, sound)?;
     check_file(&rt, alloc, &sound, one_frame(), 578)?;
-    let two = [
-        Vec::from_slice(alloc, b"\xaa\xbb")?,
-        Vec::from_slice(alloc, b"\xaa\xbb\xcc")?,
-    ];
-    let pictures = movie(alloc, *b"vide", 7, &two)?;
+    let pictures = bare(alloc, *b"vide", 7)?;
+    let pictures = with_sample(&rt, pictures, 1024, 0, true, &[piece(0, 0, 2)])?;
+    let pictures = with_sample(&rt, pictures, 1024, 0, true, &[piece(0, 0, 3)])?;
+    let pictures = movie_of(alloc, pictures)?;
     check_file(&rt, alloc, &pictures, two_sizes(), 593)?;
     Ok(())
 }
 
-// Where the call of this number fails, so many bytes stand.
-fn check_failing(
-    rt: &impl Abort,
-    alloc: Global,
-    movie: &PlainMovie,
-    failing: u64,
-    len: usize,
-) -> Result<(), AllocError>
-    requires { IsSingle movie.now }
+// A picture of one unit that is shown 2000 ticks late, and one of two units that isn't sync; with user data.
+fn pictures(rt: &impl Abort, alloc: Global) -> Result<Movie, AllocError>
+    ensures { IfOk result (λ movie. IsOneChunk movie) }
 {
-    let (folder, whole, _) = written_of(alloc, movie, failing)?;
-    assert!(rt; !whole, "call {failing}");
-    assert_eq!(rt; folder.written().len(), len, "call {failing}");
-    Ok(())
+    let track = bare(alloc, *b"vide", 1)?;
+    let track = with_sample(rt, track, 1000, 2000, true, &[unit(0, 0, 2)])?;
+    let track = with_sample(rt, track, 1000, 0, false, &[unit(0, 2, 1), unit(1, 0, 2)])?;
+    let track = with_user_data(alloc, track)?;
+    movie_of(alloc, track)
 }
 
-// Where none does, the file has so many bytes, and ends with the frames.
-fn check_whole(
-    rt: &impl Abort,
-    alloc: Global,
-    movie: &PlainMovie,
-    failing: u64,
-    len: usize,
-    frames: &[Vec<u8>],
-) -> Result<(), AllocError>
-    requires { IsSingle movie.now }
-{
-    let (folder, whole, planned) = written_of(alloc, movie, failing)?;
-    assert!(rt; whole);
-    assert_eq!(rt; folder.written().len(), len);
-    assert_eq!(rt; planned, len as u64);
-    let mut payload = Vec::new(alloc);
-    for frame in frames {
-        payload.extend_from_slice(frame)?;
-    }
-    assert!(rt; folder.written().ends_with(&payload));
-    Ok(())
-}
-
-// Where the append of each piece fails in turn, the pieces before it stand and half of it; where none does, all stand.
-fn check_appends(
-    rt: &impl Abort,
-    alloc: Global,
-    sizes: &[usize],
-    pieces: &[usize],
-) -> Result<(), AllocError> {
-    let frames = frames_of(alloc, sizes)?;
-    assert!(rt; 1 <= frames.len());
-    assert!(rt; frames.len() <= 1000);
-    let movie = movie(alloc, *b"soun", 1, &frames)?;
-    let mut before: usize = 0;
-    let mut call: u64 = 2;
-    for &piece in pieces {
-        check_failing(rt, alloc, &movie, call, before.wrapping_add(piece / 2))?;
-        before = before.wrapping_add(piece);
-        call = call.wrapping_add(1);
-    }
-    check_whole(rt, alloc, &movie, call, before, &frames)
-}
-
-// The window has 65,536 bytes. The first piece is the front: 576 bytes, and 4 more for each sample where sizes differ.
 #[test]
-fn pieces_are_appended_in_turn(rt: HostRuntime) -> Result<(), Fail> {
-    let rows: [(&[usize], &[usize]); 8] = [
-        (&[3, 5], &[584, 8]),
-        (&[0], &[580]),
-        (&[65_536], &[576, 65_536]),
-        (&[65_537], &[576, 65_537]),
-        (&[3, 65_536, 5], &[588, 3, 65_536, 5]),
-        (&[65_535, 1, 1], &[588, 65_536, 1]),
-        (&[0, 70_000, 0], &[588, 70_000]),
-        (&[1000; 200], &[576, 65_000, 65_000, 65_000, 5000]),
+fn pictures_of_units(rt: HostRuntime) -> Result<(), Fail> {
+    let alloc = rt.alloc();
+    let movie = pictures(&rt, alloc)?;
+    check_file(&rt, alloc, &movie, units(), 667)?;
+    for room in [1, 5, 65_536] {
+        check_faults(&rt, alloc, &movie, room)?;
+    }
+    Ok(())
+}
+
+// The size of `mdat` takes 64 bits from a payload of 4,294,967,288 bytes on.
+#[test]
+fn long_payloads(rt: HostRuntime) -> Result<(), Fail> {
+    let rows: [(u32, u32, &[u8], u64); 3] = [
+        (4_294_967_287, 0, b"\xff\xff\xff\xffmdat", 4_294_967_287),
+        (
+            4_294_967_288,
+            0,
+            b"\x00\x00\x00\x01mdat\x00\x00\x00\x01\x00\x00\x00\x08",
+            4_294_967_288,
+        ),
+        (
+            4_294_967_295,
+            4_294_967_295,
+            b"\x00\x00\x00\x01mdat\x00\x00\x00\x02\x00\x00\x00\x0e",
+            8_589_934_590,
+        ),
     ];
-    for (sizes, pieces) in rows {
-        check_appends(&rt, rt.alloc(), sizes, pieces)?;
+    let alloc = rt.alloc();
+    for (one, other, head, payload) in rows {
+        let track = bare(alloc, *b"soun", 1)?;
+        let track = with_sample(&rt, track, 1024, 0, true, &[piece(0, 0, one)])?;
+        let track = with_sample(&rt, track, 1024, 0, true, &[piece(0, 0, other)])?;
+        let movie = movie_of(alloc, track)?;
+        let plan = plan_file(alloc, &movie).map_err(|_| AllocError)?;
+        assert!(rt; plan.front.ends_with(head));
+        assert_eq!(rt;
+            plan.length,
+            (plan.front.len() as u64).wrapping_add(payload)
+        );
     }
     Ok(())
 }

@@ -3,3 +3,16 @@ mod OtherFile
 mod Examples
 mod Laws
 mod PlainHeads
+mod ColumnsInNumbers
+mod LimitsInOrder
+mod RunsAreTested
+mod SamplesFollow
+mod ColumnsAreKept
+mod PartsAreMovies
+mod PartsFitMovies
+mod FilesMayFollow
+mod ScalesGrow
+mod LatestEnds
+mod DurationsByColumns
+mod PiecesInOrder
+mod NumbersFit

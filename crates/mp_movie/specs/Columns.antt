@@ -17,3 +17,7 @@ sync_marks samples = map (λ sample. if sample.sync then pos 1 else pos 0) sampl
 -- how many bytes it has
 abbrev pub sizes : List SampleRecord → List ℕ
 sizes samples = map (λ sample. length sample.bytes) samples
+
+-- the number of its entry
+abbrev pub entry_numbers : List SampleRecord → List ℤ
+entry_numbers samples = map (λ sample. pos sample.entry) samples

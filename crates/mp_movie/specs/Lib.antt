@@ -12,3 +12,10 @@ pub mod Edits
 pub mod Tracks
 pub mod Present
 pub mod Single
+pub mod Placed
+pub mod StandsFor
+pub mod WholeParts
+pub mod PartsFit
+pub mod Settling
+pub mod PartsLaw
+pub mod CanBeWritten

@@ -9,6 +9,7 @@ ghost use Rattle.mp_movie.specs.Heads.{media_fields, movie_fields, movie_head, t
 ghost use Rattle.mp_movie.specs.Present.{Presents, first_fault, moov_in, movie_of, present};
 ghost use Rattle.mp_movie.specs.Single.{IsMovieHead, IsTrackHead};
 ghost use Rattle.mp_movie.specs.WellFormed.{IsWellFormed};
+ghost use Rattle.mp_movie.specs.PartsLaw.{ColumnsAreKept, FilesMayFollow, PartsStandForMovies, SamplesFollow};
 
 use mp_timeline::sameness_is_equality;
 
@@ -44,3 +45,26 @@ pub fn same_movie_is_presented()
 {
     sameness_is_equality();
 }
+
+/// Columns stay columns with one sample more, and stand for one sample more.
+pub fn a_sample_follows()
+    ensures { SamplesFollow }
+{}
+
+/// The columns of a track are those of the samples that it stands for.
+pub fn columns_are_kept()
+    ensures { ColumnsAreKept }
+{}
+
+/// Well-formed parts stand for a well-formed movie, and where files hold its pieces it is within the limits
+/// exactly where the parts are.
+pub fn parts_stand_for_movies()
+    ensures { PartsStandForMovies }
+{
+    columns_are_kept();
+}
+
+/// Files that are opened later change nothing of what a movie stands for.
+pub fn files_may_follow()
+    ensures { FilesMayFollow }
+{}

@@ -1,0 +1,4 @@
+mod Parts
+mod Gathering
+mod Ranges
+mod Pieces

@@ -1,0 +1,4 @@
+pub mod Piece
+pub mod Window
+pub mod Copied
+pub mod Gathered
