@@ -4,4 +4,9 @@ mod Placed
 mod Numbers
 mod Steps
 mod Marks
-mod EntryCount
+mod Walk
+mod Counts
+mod NoneOfType
+mod TopWalk
+mod LongMovies
+mod WithinFile

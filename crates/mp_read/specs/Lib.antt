@@ -4,3 +4,5 @@ pub mod Table
 pub mod Count
 pub mod Columns
 pub mod Track
+pub mod Movie
+pub mod Top

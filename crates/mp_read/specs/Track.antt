@@ -1,12 +1,14 @@
 -- What is read of a track box: the track with its tables in place of its samples (ISO/IEC 14496-12, 8.3 to 8.7).
-use Rattle.std.specs.Prelude.{ℕ, List, Option, Result}
-use Rattle.std.specs.List.{sum_by}
+use Rattle.std.specs.Prelude.{◌≡◌, ℕ, false, List, Option, Result}
+use Rattle.std.specs.List.{list_any, sum_by}
 use Rattle.mp_ports.specs.declared.fault.Bad.{Bad}
 use Rattle.mp_ports.specs.Checks.{unless}
 use Rattle.mp_boxes.specs.Boxes.{Box}
 use Rattle.mp_headers.specs.TrackHeader.{tkhd_fields}
 use Rattle.mp_headers.specs.MediaHeader.{mdhd_fields}
 use Rattle.mp_headers.specs.Handler.{handler_of, name_of}
+use Rattle.mp_chunks.specs.Places.{SamplePlace, is_outside}
+use Rattle.mp_chunks.specs.Samples.{columns_of}
 use Rattle.mp_timeline.specs.declared.segment.Segment.{Segment}
 use Rattle.mp_timeline.specs.Movie.{TrackHeadRecord}
 use Rattle.mp_movie.specs.Children.{user_data}
@@ -41,6 +43,12 @@ tables_of trak =
       columns = columns_in boxes;
       edits = edits_of boxes.edts;
     }
+
+-- each of its samples ends in a file of so many bytes
+pub record LiesInFile (size : ℕ) (track : TrackTablesRecord) : Type 0 where
+  pub samples : List SamplePlace
+  pub places : track.columns.places ≡ columns_of samples
+  pub inside : list_any (is_outside size) samples ≡ false
 
 -- how many samples are in some track boxes
 abbrev pub samples_in : List Box → ℕ

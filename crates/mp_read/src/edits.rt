@@ -8,7 +8,7 @@ ghost use Rattle.mp_read.specs.Part.{IsPart, part_of};
 
 use crate::moov::Moov;
 use mp_boxes::ChildBox;
-use mp_edits::read_elst;
+use mp_edits::{edits_are_read, read_elst};
 use mp_ports::Fail;
 use mp_timeline::Segment;
 use std::alloc::Global;
@@ -21,6 +21,7 @@ fn edits_in(alloc: Global, moov: &Moov<'_>, edts: ChildBox) -> Result<Option<Vec
         Gives refusal (λ edits. option_map (λ list. list.items) edits) result
         (unless (edits_fault box) (edits_of box)) }
 {
+    edits_are_read();
     moov.check_boxes(edts)?;
     match moov.at_most_one(edts, *b"elst")? {
         Some(elst) => read_elst(alloc, moov.body(elst), elst.span.place),

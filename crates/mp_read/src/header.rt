@@ -1,13 +1,21 @@
 //! What a track box says of its track in front of its samples (ISO/IEC 14496-12, 8.3 and 8.4).
 
-ghost use Rattle.std.specs.Prelude.{◌≡◌, ◌≤◌, ◌==◌, List, IfOk, IfSome, IsOk, OnOk, Some, length, map, option_map};
+ghost use Rattle.std.specs.Prelude.{◌≡◌, ◌==◌, List, IfOk, IfSome, IsOk, OnOk, Some, map, option_map};
 ghost use Rattle.std.specs.List.{list_any};
 ghost use Rattle.mp_ports.specs.Checks.{Checks, fault_at, unless};
 ghost use Rattle.mp_ports.specs.Gives.{Gives, refusal};
 ghost use Rattle.mp_boxes.specs.Boxes.{Box};
-ghost use Rattle.mp_headers.specs.Handler.{name_place};
 ghost use Rattle.mp_movie.specs.Children.{children};
-ghost use Rattle.mp_read.specs.Header.{header_fault, header_in, information_fault, information_in, media_fault, media_in, number_fault};
+ghost use Rattle.mp_movie.specs.Entries.{local_references, references_fault};
+ghost use Rattle.mp_read.specs.Header.{
+  header_fault,
+  header_in,
+  information_fault,
+  information_in,
+  media_fault,
+  media_in,
+  number_fault,
+};
 ghost use Rattle.mp_read.specs.Part.{IsPart, part_of};
 ghost use Rattle.mp_read.specs.Track.{tables_of};
 
@@ -119,7 +127,6 @@ pub(crate) fn read_media(moov: &Moov<'_>, mdia: ChildBox) -> Result<MediaParts, 
           part_of moov.now parts.information,
         )) result
         (unless (media_fault box) (media_in box)) }
-    ensures name { IfOk result (λ parts. name_place ≤ length (part_of moov.now parts.hdlr).body) }
     ensures hdlr { IfOk result (λ parts. IsPart moov.now parts.hdlr) }
     ensures information { IfOk result (λ parts. IsPart moov.now parts.information) }
 {
@@ -137,12 +144,22 @@ pub(crate) fn read_media(moov: &Moov<'_>, mdia: ChildBox) -> Result<MediaParts, 
     })
 }
 
+/// For each data reference in the box `dref` whether its data is in this file, as `read_dref`.
+#[tactic(auto, unfolding(mp_movie::specs::Entries::references_fault, mp_movie::specs::Entries::local_references))]
+fn read_references(alloc: Global, moov: &Moov<'_>, dref: ChildBox) -> Result<Vec<bool>, Fail>
+    requires { IsPart moov.now dref }
+    ensures { let box = part_of moov.now dref in
+        Gives refusal (λ local. local.items) result (unless (references_fault box) (local_references box)) }
+{
+    let base = moov.body_place(dref);
+    read_dref(alloc, moov.body(dref), base, dref.span.place)
+}
+
 /// The data references and the sample table in the box `minf`.
 ///
 /// `BoxCut` and `BoxSize` in `minf`; `BoxMissing` and `BoxTwice` of `dinf` and `stbl`; the same in `dinf`,
-/// of `dref`; then as
-/// `read_dref`.
-#[tactic(auto, unfolding(crate::specs::Header::information_fault, mp_movie::specs::Entries::references_fault, mp_movie::specs::Entries::local_references))]
+/// of `dref`; then as `read_dref`.
+#[tactic(auto, unfolding(crate::specs::Header::information_fault))]
 pub(crate) fn read_information(
     alloc: Global,
     moov: &Moov<'_>,
@@ -159,11 +176,6 @@ pub(crate) fn read_information(
     let table = moov.one(minf, *b"stbl")?;
     moov.check_boxes(dinf)?;
     let dref = moov.one(dinf, *b"dref")?;
-    let local = read_dref(
-        alloc,
-        moov.body(dref),
-        moov.body_place(dref),
-        dref.span.place,
-    )?;
+    let local = read_references(alloc, moov, dref)?;
     Ok(InformationParts { local, table })
 }

@@ -7,16 +7,25 @@
 mod columns;
 mod count;
 mod edits;
+mod file;
 mod header;
 mod moov;
+mod movie;
 mod sample_table;
 mod table;
+#[cfg(test)]
+mod tests;
+mod top;
 mod track;
+mod tracks;
 
 pub use columns::{SampleColumns, read_columns};
 pub use count::count_samples;
 pub use edits::read_edits;
+pub use file::{MOST_MOOV, read_tables};
 pub use moov::Moov;
+pub use movie::{MovieTables, read_moov};
 pub use sample_table::{SampleTable, read_sample_table};
 pub use table::{TableParts, find_tables};
 pub use track::{TrackTables, read_trak};
+pub use tracks::read_tracks;

@@ -2,7 +2,7 @@
 
 ghost use Rattle.std.specs.Prelude.{◌+◌, ◌<◌, ◌^◌, length};
 
-use mp_boxes::{ChildBox, Span, at_most_one, check_boxes, first_child, one, one_of_two};
+use mp_boxes::{BoxHead, ChildBox, Span, at_most_one, check_boxes, first_child, one, one_of_two};
 use mp_ports::{Bad, NoMemory};
 use std::alloc::Global;
 
@@ -18,8 +18,9 @@ impl<'a> Moov<'a> {
     ghost use Rattle.std.specs.Prelude.{◌≡◌, ◌+◌, ◌<◌, ◌^◌, length, IsOk, IfOk, IfSome, OnOk, Some, option_map};
     ghost use Rattle.mp_ports.specs.Checks.{Checks};
     ghost use Rattle.mp_ports.specs.Gives.{Gives};
-    ghost use Rattle.mp_boxes.specs.Boxes.{Box, body_place};
-    ghost use Rattle.mp_boxes.specs.Child.{IsSpan, IsWithin};
+    ghost use Rattle.mp_boxes.specs.Boxes.{Box, IsContainer, body_place};
+    ghost use Rattle.mp_boxes.specs.Head.{IsInside};
+    ghost use Rattle.mp_boxes.specs.Child.{IsHeadOf, IsSpan, IsWithin};
     ghost use Rattle.mp_movie.specs.Children.{at_most_one, children, has_boxes, one, one_of_two, user_data};
     ghost use Rattle.mp_read.specs.Part.{IsPart, part_of};
 
@@ -61,12 +62,32 @@ impl<'a> Moov<'a> {
         ChildBox { kind, span }
     }
 
+    /// The box of that head in the body of another.
+    pub(crate) fn headed(&self, part: ChildBox, head: BoxHead) -> ChildBox
+        requires part { IsPart self.now part }
+        requires inside { IsInside (part_of self.now part).body head.place head }
+        requires head { (child : Box) × IsHeadOf (body_place (part_of self.now part))
+            (part_of self.now part).body head child }
+        ensures part { IsPart self.now result }
+        ensures child { (child : Box) → IsHeadOf (body_place (part_of self.now part))
+            (part_of self.now part).body head child
+            → part_of self.now result ≡ child }
+    {
+        let span = Span {
+            from: head.place + head.head,
+            to: head.place + head.len,
+            place: self.body_place(part) + head.place as u64,
+        };
+        self.child(part, head.kind, span)
+    }
+
     /// Whether a box is whole boxes, one after another: `BoxCut` and `BoxSize`.
     #[tactic(auto, unfolding(mp_movie::specs::Children::children))]
     pub fn check_boxes(&self, part: ChildBox) -> Result<(), Bad>
         requires { IsPart self.now part }
         ensures fault { Checks result (has_boxes (part_of self.now part)) }
         ensures whole { OnOk result (IsOk (children (part_of self.now part))) }
+        ensures boxes { let box = part_of self.now part in OnOk result (IsContainer (body_place box) box.body) }
     {
         check_boxes(self.body(part), self.body_place(part))
     }

@@ -28,7 +28,7 @@ pub struct SampleTable {
 }
 
 /// The sample entries in the box `stsd`, as `read_stsd`.
-#[tactic(auto, unfolding(mp_movie::specs::Entries::entries_fault, mp_movie::specs::Entries::entries_of), using(crate::proofs::EntryCount::entries_few))]
+#[tactic(auto, unfolding(mp_movie::specs::Entries::entries_fault, mp_movie::specs::Entries::entries_of))]
 fn read_entries(
     alloc: Global,
     moov: &Moov<'_>,

@@ -4,9 +4,11 @@ ghost use Rattle.std.specs.Prelude.{◌≡◌, ◌+◌, ◌≤◌, List, IfOk, I
 ghost use Rattle.mp_ports.specs.Gives.{Gives, refusal};
 ghost use Rattle.mp_boxes.specs.Boxes.{Box};
 ghost use Rattle.mp_columns.specs.declared.columns.TheConstants.{MOST_ITEMS};
-ghost use Rattle.mp_headers.specs.Handler.{name_of, name_place};
+ghost use Rattle.mp_headers.specs.Handler.{name_of};
 ghost use Rattle.mp_movie.specs.Children.{children, user_data};
 ghost use Rattle.mp_movie.specs.Heads.{track_head};
+ghost use Rattle.mp_movie.specs.SampleTable.{count_in};
+ghost use Rattle.mp_movie.specs.TrackBoxes.{boxes_of};
 ghost use Rattle.mp_read.specs.Part.{IsPart, part_of};
 ghost use Rattle.mp_read.specs.Track.{read_track, samples_in, tables_of};
 
@@ -17,14 +19,11 @@ use crate::moov::Moov;
 use crate::sample_table::read_sample_table;
 use mp_boxes::ChildBox;
 use mp_columns::Column;
-use mp_headers::Tkhd;
+use mp_headers::{Tkhd, name_of};
 use mp_ports::{Fail, NoMemory};
 use mp_timeline::{EntryBytes, Segment, TrackHead};
 use std::alloc::Global;
 use std::marker::Model;
-
-/// Where the name begins in the body of `hdlr`.
-const NAME_PLACE: usize = 24;
 
 /// A track as its boxes say it, tables in place of its samples.
 #[derive(Drop)]
@@ -63,14 +62,6 @@ impl TrackTables {
     }
 }
 
-/// The name in the body of `hdlr` (8.4.3).
-fn name_in(body: &[u8]) -> &[u8]
-    requires { name_place ≤ length body.now }
-    ensures { result.now ≡ name_of body.now }
-{
-    &body[NAME_PLACE..]
-}
-
 /// The head of a track by its headers, the name behind its handler, and its user data.
 fn head_of(
     alloc: Global,
@@ -82,13 +73,12 @@ fn head_of(
     requires trak { IsPart moov.now trak }
     requires whole { IsOk (children (part_of moov.now trak)) }
     requires hdlr { IsPart moov.now media.now.hdlr }
-    requires name { name_place ≤ length (part_of moov.now media.now.hdlr).body }
     ensures { IfOk result (λ head. head ≡ track_head header.now media.now.header media.now.handler
         (name_of (part_of moov.now media.now.hdlr).body) (user_data (part_of moov.now trak))) }
 {
     let matrix = header.matrix;
     let handler = media.handler;
-    let name = Vec::from_slice(alloc, name_in(moov.body(media.hdlr)))?;
+    let name = Vec::from_slice(alloc, name_of(moov.body(media.hdlr)))?;
     let udta = moov.user_data(alloc, trak)?;
     Ok(TrackHead {
         flags: header.flags,
@@ -128,6 +118,8 @@ pub fn read_trak(
     ensures track { (others : List Box) → earlier.now ≡ map tables_of others → before ≡ samples_in others
         → Gives refusal (λ track. track) result (read_track file_size others (part_of moov.now trak)) }
     ensures few { IfOk result (λ track. before + length track.columns.sync_marks ≤ MOST_ITEMS) }
+    ensures count { (others : List Box) → earlier.now ≡ map tables_of others
+        → IfOk result (λ track. length track.columns.sync_marks ≡ count_in (boxes_of (part_of moov.now trak))) }
 {
     let parts = read_header(moov, trak, earlier)?;
     let media = read_media(moov, parts.media)?;
