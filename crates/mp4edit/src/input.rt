@@ -30,8 +30,8 @@ pub fn plan_job<F: Folder>(
 ) -> Result<(Movie, FilePlan), InputFail>
     requires opened { (F.state folder.old).opened ≡ [] }
     requires window { job.now.window ≡ 0 }
-    ensures outcome { IfSome (F.state folder.old).held (λ files. GivesInput (λ planned. planned.0) result (F.state folder.new)
-        (outcome job.now files) job.now.command) }
+    ensures outcome { IfSome (F.state folder.old).held (λ files. GivesInput (λ planned. planned.0) result
+        (F.state folder.new) (outcome job.now files) job.now.command) }
     ensures ready { IfOk result (λ planned. IsReady (F.state folder.new) planned.0) }
     ensures plan { IfOk result (λ planned. IsPlanOf planned.1 planned.0) }
     ensures state { ReadsInput result job.now.input (F.state folder.old) (F.state folder.new) }

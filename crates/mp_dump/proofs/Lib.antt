@@ -1,0 +1,11 @@
+mod Chains
+mod Commas
+mod TextsAsValues
+mod RowsByColumns
+mod TextsOfRows
+mod RowsAreWritten
+mod TracksAreTold
+mod TracksAreWritten
+mod LinesOfTracks
+mod LineOfMovie
+mod Objects
