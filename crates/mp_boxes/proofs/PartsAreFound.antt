@@ -14,7 +14,7 @@ use Rattle.mp_boxes.specs.Format.{part_of, parts_of}
 use Rattle.mp_boxes.proofs.CutInOneWay.{walk-cut}
 use Rattle.mp_boxes.proofs.PartsAreRead.{parts-cut, parts-read}
 
-parts-again : (place : ℕ) (parts : List Part) → map part_of (listed place parts) ≡ parts
+pub parts-again : (place : ℕ) (parts : List Part) → map part_of (listed place parts) ≡ parts
 parts-again place [] = refl
 parts-again place (part ∷ parts) = rw (parts-again (place + (8 + length part.body)) parts) refl
 

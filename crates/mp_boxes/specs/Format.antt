@@ -6,7 +6,7 @@ use Rattle.mp_ports.specs.declared.fault.Bad.{Bad}
 use Rattle.mp_ports.specs.Checks.{◌>>=◌}
 use Rattle.mp_boxes.specs.Boxes.{Box, IsCut, boxes}
 use Rattle.mp_boxes.specs.Field.{Part, boxes_bytes}
-use Rattle.mp_boxes.specs.Parts.{HasCompactType}
+use Rattle.mp_boxes.specs.Parts.{HasCompactType, listed}
 
 -- a box without its place and the spelling of its header
 abbrev pub part_of : Box → Part
@@ -35,9 +35,10 @@ pub record IsFormat {V : Type 0} (part : V → Part) (read : ℕ → List ℕ �
   pub back : (value : V) (base : ℕ) → Fits value → read base (part value).body ≡ Ok value
 
 -- the parts of boxes that are written one after another are just these, with those of what is behind them; a text has the same parts
--- wherever it stands
+-- wherever it stands, and the boxes that some parts are have these parts
 pub record PartsAreFound : Type 0 where
   pub alone : (parts : List Part) → AllByRecursion HasCompactType parts → length (boxes_bytes parts) < 2 ^ 32 → parts_of (boxes_bytes parts) ≡ Ok parts
   pub in_front : (parts : List Part) (after : List ℕ) (more : List Box) → AllByRecursion HasCompactType parts → length (boxes_bytes parts) < 2 ^ 32
       → IsCut false (length (boxes_bytes parts)) after more [] → parts_of (boxes_bytes parts ++ after) ≡ Ok (parts ++ map part_of more)
   pub anywhere : (place : ℕ) (text : List ℕ) (found : List Box) → boxes false place text ≡ Ok found → parts_of text ≡ Ok (map part_of found)
+  pub same : (place : ℕ) (parts : List Part) → map part_of (listed place parts) ≡ parts

@@ -21,6 +21,10 @@ pub record IsPushing (now : Vec ℕ Global) (left : List (List ℕ)) (all : List
   pub room : HasRoom now (length (joined left))
   pub short : length (joined left) < 2 ^ 32
 
+-- what is left may be cut into other pieces of the same text
+abbrev pub PiecesMayBeCut : Type 0
+PiecesMayBeCut = (now : Vec ℕ Global) (before after : List (List ℕ)) (all : List ℕ) → joined before ≡ joined after → IsPushing now before all → IsPushing now after all
+
 -- where these pieces were left in front of others, those are left in their place now
 abbrev pub IsLeft : Vec ℕ Global → Vec ℕ Global → List (List ℕ) → List (List ℕ) → Type 0
 IsLeft old new before after = (rest : List (List ℕ)) (all : List ℕ) → IsPushing old (before ++ rest) all → IsPushing new (after ++ rest) all

@@ -5,7 +5,7 @@ ghost use Rattle.mp_boxes.specs.Format.{PartsAreFound};
 ghost use Rattle.mp_boxes.specs.Table.{BoxesHaveLengths, TablesAreRead};
 
 /// The parts of boxes that are written one after another are these boxes, and a text has the same parts
-/// wherever it stands.
+/// wherever it stands. The boxes that some parts are have these parts.
 pub fn parts_are_found()
     ensures { PartsAreFound }
 {}

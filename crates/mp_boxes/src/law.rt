@@ -2,6 +2,7 @@
 
 ghost use Rattle.mp_boxes.specs.Laws.{BoxesAreRead, BoxesAreWhole, HeadsAreRead, NumbersAreRead};
 ghost use Rattle.mp_boxes.specs.Parts.{PartsAreRead};
+ghost use Rattle.mp_boxes.specs.Push.{PiecesMayBeCut};
 ghost use Rattle.mp_boxes.specs.Reading.{FieldsAreRead};
 
 /// A number is read where it was written, and so is a type.
@@ -33,4 +34,9 @@ pub fn boxes_are_whole()
 /// Boxes that are written one after another are read as just these boxes.
 pub fn parts_are_read()
     ensures { PartsAreRead }
+{}
+
+/// What is left to be pushed may be cut into other pieces of the same text.
+pub fn pieces_may_be_cut()
+    ensures { PiecesMayBeCut }
 {}

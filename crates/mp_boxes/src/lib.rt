@@ -32,7 +32,7 @@ pub use full_box::{FIRST_FIELD, FIRST_ROW, check_full_box, flags, row_count, ver
 pub use head::{BoxHead, TopHead, head_of, next_box};
 pub use law::{
     boxes_are_read, boxes_are_whole, fields_are_read, heads_are_read, numbers_are_read,
-    parts_are_read,
+    parts_are_read, pieces_may_be_cut,
 };
 pub use length::{box_len, fields_len, sum_len, table_len};
 pub use number::{kind_in, u16_in, u32_in, u64_in};

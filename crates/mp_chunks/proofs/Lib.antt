@@ -15,3 +15,4 @@ pub mod PlacesAreSkipped
 pub mod RowsArePushed
 pub mod RunsArePushed
 pub mod SizesArePushed
+pub mod KindsAreEntries

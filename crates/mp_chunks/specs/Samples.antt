@@ -1,5 +1,5 @@
 -- The samples by the tables of sizes, chunks and places, and the faults of these in order (ISO/IEC 14496-12, 8.7.3 to 8.7.5).
-use Rattle.std.specs.Prelude.{ℕ, Bool, ◌==◌, ◌&&◌, not, nat_lt, List, [], ◌∷◌, length, map, sum, Option, Some, None, Result, ℤ, pos, if◌then◌else◌}
+use Rattle.std.specs.Prelude.{◌≡◌, ◌<◌, ◌≤◌, ℕ, Bool, ◌==◌, ◌&&◌, not, nat_lt, List, [], ◌∷◌, length, map, slice_index, sum, Option, Some, None, Result, ℤ, pos, if◌then◌else◌}
 use Rattle.std.specs.List.{list_any}
 use Rattle.mp_ports.specs.declared.code.Code.{Code}
 use Rattle.mp_ports.specs.declared.code.Code.TheVariants.{ChunkMap, SampleOutside}
@@ -12,7 +12,7 @@ use Rattle.mp_boxes.specs.FullBox.{table_fault}
 use Rattle.mp_chunks.specs.Table.{body_of}
 use Rattle.mp_chunks.specs.Sizes.{sample_count, sizes_of, size_checks}
 use Rattle.mp_chunks.specs.Chunks.{offset_len, chunk_offsets_of, run_len, stsc_of, runs_fault, runs_of_chunks}
-use Rattle.mp_chunks.specs.Places.{SamplePlace, counts_of, samples_of, is_outside}
+use Rattle.mp_chunks.specs.Places.{SamplePlace, counts_of, samples_of, sample_at, is_outside}
 
 -- each span lies in the bytes of `moov`
 pub record AreWithin (tables : Tables) : Type 0 where
@@ -135,3 +135,18 @@ places_within file_size tables = if list_any (is_outside file_size) (samples tab
 -- these, or the first fault of the chunks
 abbrev pub placed_from : ℕ → ℕ → Tables → Result (Option PlacesRecord) Bad
 placed_from entries file_size tables = unless (chunks_fault entries tables) (places_within file_size tables)
+
+-- the number of an entry is one of so many
+pub record IsOneOf (entries number : ℕ) : Type 0 where
+  pub some : 1 ≤ number
+  pub known : number ≤ entries
+
+-- a table of sizes without a fault has as many as it says; there is a sample for each size, of that size, and where the chunks have no
+-- fault it is of one of the entries
+pub record TablesGiveSamples : Type 0 where
+  pub sizes : (compact : Bool) (body : List ℕ) → first_code (size_checks compact body) ≡ None → length (sizes_of compact body) ≡ sample_count body
+  pub count : (bodies : Bodies) → length (samples_by bodies) ≡ length (sizes_of bodies.compact bodies.sizes)
+  pub size : (bodies : Bodies) (before : ℕ) → before < length (samples_by bodies)
+      → (sample_at (samples_by bodies) before).size ≡ slice_index (sizes_of bodies.compact bodies.sizes) before
+  pub entry : (entries stsc_place offsets_place : ℕ) (bodies : Bodies) (before : ℕ) → chunks_fault_of entries stsc_place offsets_place bodies ≡ None
+      → before < length (samples_by bodies) → IsOneOf entries (sample_at (samples_by bodies) before).kind

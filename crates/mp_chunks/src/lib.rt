@@ -22,7 +22,7 @@ mod tables;
 mod tests;
 mod walk;
 
-pub use law::{places_are_read, places_change_no_length};
+pub use law::{places_are_read, places_change_no_length, tables_give_samples};
 pub use places::{Places, find_places, read_places};
 pub use push::{
     ChunkHead, chunk_offsets_len, push_chunk_offsets, push_stsc, push_stsz, stsc_len, stsz_len,

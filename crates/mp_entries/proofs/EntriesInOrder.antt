@@ -72,7 +72,7 @@ all_more P [] item all one = (one, tt)
 all_more P (first ∷ items) item all one = (all.0, all_more P items item all.1 one)
 
 -- an entry is kept of each box
-kept_len : (local : List Bool) (children : List Box) (kept : List (List ℕ)) → kept_entries local children ≡ Ok kept → length kept ≡ length children
+pub kept_len : (local : List Bool) (children : List Box) (kept : List (List ℕ)) → kept_entries local children ≡ Ok kept → length kept ≡ length children
 kept_len local [] kept e = let none : [] ≡ kept = cc in ap length (sym none)
 kept_len local (child ∷ children) kept e = by (kept_entry child.place (whole_box child) local) (kept_entries local children) refl e (kept_len local children)
   where

@@ -7,3 +7,4 @@ pub mod EntriesInOrder
 mod ReferencesAreRead
 mod DescriptionsAreRead
 pub mod EntriesArePushed
+mod KeptOfTables

@@ -1,5 +1,5 @@
 -- Pieces that are left to be pushed are cut finer.
-use Rattle.std.proofs.Common.{◌≡◌, ℕ, ◌^◌, ◌%◌, ◌<◌, List, [], ◌∷◌, ◌++◌, length, take, drop, refl, sym, ap, subst, ◌∙◌, append_assoc, false}
+use Rattle.std.proofs.Common.{◌≡◌, ℕ, ◌^◌, ◌%◌, ◌<◌, List, [], ◌∷◌, ◌++◌, length, take, drop, refl, sym, ap, ◌∙◌, append_assoc, false}
 use Rattle.std.specs.Int.{w32, to_be_bytes}
 use Rattle.std.specs.declared.alloc.Global.{Global}
 use Rattle.std.specs.declared.vec.Vec.{Vec}
@@ -7,19 +7,11 @@ use Rattle.std.proofs.lemmas.List.{append-nil}
 use Rattle.mp_boxes.specs.declared.field.Field.{Field}
 use Rattle.mp_boxes.specs.declared.field.Field.TheVariants.{U16, U32}
 use Rattle.mp_boxes.specs.Field.{Part, body_bytes, box_bytes, boxes_bytes, leaf, raw, version_and_flags, zeros}
-use Rattle.mp_boxes.specs.Push.{HasRoom, IsPushing, joined}
+use Rattle.mp_boxes.specs.Push.{IsPushing, joined}
 use Rattle.mp_boxes.specs.Table.{mixed, with_rows}
 use Rattle.mp_entries.specs.Descriptor.{descriptor, descriptor_head, decoder_tag, group, length_bytes, specific_tag, stream_tag}
 use Rattle.mp_entries.specs.Esds.{EsdsRecord, decoder_body, decoder_fields, esds, sample_rate, sound_fields, specific_info, stream_body, stream_byte}
 use Rattle.mp_entries.proofs.Lengths.{specific_info-some, sync_layer}
-
--- pieces that are the same text are left alike
-pub same_pieces : (now : Vec ℕ Global) (some other : List (List ℕ)) (all : List ℕ) → joined some ≡ joined other → IsPushing now some all → IsPushing now other all
-same_pieces now some other all e p = record {
-  items = ap (λ (text : List ℕ). now.items ++ text) (sym e) ∙ p.items;
-  room = subst (λ (text : List ℕ). HasRoom now (length text)) e p.room;
-  short = subst (λ (text : List ℕ). length text < 2 ^ 32) e p.short;
-}
 
 -- where nothing is left the whole is pushed
 pub all_pushed : (now : Vec ℕ Global) (all : List ℕ) → IsPushing now [] all → now.items ≡ all

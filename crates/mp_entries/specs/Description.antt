@@ -9,6 +9,7 @@ use Rattle.mp_boxes.specs.Boxes.{Box, IsBytes, boxes, whole_box}
 use Rattle.mp_boxes.specs.Counted.{numbered_fault}
 use Rattle.mp_boxes.specs.Field.{Part, leaf, raw, version_and_flags}
 use Rattle.mp_boxes.specs.FullBox.{first_row, row_count, table_fault}
+use Rattle.mp_boxes.specs.Head.{IsWhole}
 use Rattle.mp_entries.specs.Entry.{IsEntry}
 use Rattle.mp_entries.specs.Kept.{kept_entry}
 
@@ -59,3 +60,8 @@ pub record AreEntries (entries : List (List ℕ)) : Type 0 where
 -- what is written is read, where the data of the first reference is in the file
 abbrev pub DescriptionsAreRead : Type 0
 DescriptionsAreRead = (place base : ℕ) (local : List Bool) (entries : List (List ℕ)) → slice_index_or local 0 false ≡ true → AreEntries entries → stsd_of place base local (stsd entries).body ≡ Ok entries
+
+-- what is kept of a whole box of bytes is an entry, and of a table there are not too many
+pub record KeptAreEntries : Type 0 where
+  pub each : (base : ℕ) (bytes : List ℕ) (local : List Bool) (kept : List ℕ) → IsBytes bytes → IsWhole bytes → kept_entry base bytes local ≡ Ok kept → IsEntry kept
+  pub few : (place base : ℕ) (local : List Bool) (body : List ℕ) (kept : List (List ℕ)) → stsd_of place base local body ≡ Ok kept → length kept ≤ most_entries

@@ -4,7 +4,7 @@ ghost use Rattle.std.specs.Prelude.{◌≡◌, ℕ, ◌+◌, ◌^◌, ◌<◌, �
 ghost use Rattle.mp_boxes.specs.Push.{IsPushed};
 ghost use Rattle.mp_entries.specs.Descriptor.{group, length_bytes, descriptor_head, descriptor};
 
-use mp_boxes::push_bytes;
+use mp_boxes::{pieces_may_be_cut, push_bytes};
 
 /// The length of a descriptor whose body has `len` bytes.
 pub fn descriptor_len(len: u64) -> u64
@@ -50,6 +50,7 @@ pub fn push_head(out: &mut Vec<u8>, tag: u8, len: u64)
     requires { len < 2 ^ 28 }
     ensures { IsPushed out.old out.new (descriptor_head tag len) }
 {
+    pieces_may_be_cut();
     push_bytes(out, &[tag]);
     push_group(out, 1 << 21, len);
     push_group(out, 1 << 14, len);

@@ -3,7 +3,7 @@
 ghost use Rattle.mp_entries.specs.Whole.{HeadStays, WrittenIsWhole};
 ghost use Rattle.mp_entries.specs.Kept.{EntriesAreKept};
 ghost use Rattle.mp_entries.specs.Reference.{ReferencesAreRead};
-ghost use Rattle.mp_entries.specs.Description.{DescriptionsAreRead};
+ghost use Rattle.mp_entries.specs.Description.{DescriptionsAreRead, KeptAreEntries};
 
 use mp_boxes::{boxes_are_read, boxes_are_whole, heads_are_read, numbers_are_read};
 
@@ -39,4 +39,11 @@ pub fn descriptions_are_read()
     boxes_are_read();
     boxes_are_whole();
     entries_are_kept();
+}
+
+/// What is kept of a whole box of bytes is an entry, and of a table there are not too many.
+pub fn kept_are_entries()
+    ensures { KeptAreEntries }
+{
+    head_stays();
 }

@@ -22,6 +22,6 @@ pub use avc1::avc1_entry;
 pub use description::{push_stsd, read_stsd, stsd_len};
 pub use entry::read_entry;
 pub use esds::EsdsEntry;
-pub use law::{descriptions_are_read, entries_are_kept, references_are_read};
+pub use law::{descriptions_are_read, entries_are_kept, kept_are_entries, references_are_read};
 pub use put::esds_entry;
 pub use reference::{dref_len, push_dref, read_dref};

@@ -13,7 +13,8 @@ use crate::descriptor::{descriptor_len, push_head};
 use crate::esds::EsdsEntry;
 use crate::law::written_is_whole;
 use mp_boxes::{
-    Field, begin_box, box_len, boxes_have_lengths, fields_len, push_bytes, push_fields,
+    Field, begin_box, box_len, boxes_have_lengths, fields_len, pieces_may_be_cut, push_bytes,
+    push_fields,
 };
 use mp_ports::NoMemory;
 use std::alloc::Global;
@@ -77,6 +78,7 @@ fn push_specific(out: &mut Vec<u8>, info: &[u8])
     if info.is_empty() {
         return;
     }
+    pieces_may_be_cut();
     push_head(out, SPECIFIC, info.len() as u64);
     push_bytes(out, info);
 }
@@ -93,6 +95,7 @@ fn push_decoder(out: &mut Vec<u8>, entry: &EsdsEntry)
     requires { length entry.now.info ≤ 65536 }
     ensures { IsPushed out.old out.new (descriptor decoder_tag (decoder_body entry.now)) }
 {
+    pieces_may_be_cut();
     push_head(out, DECODER, decoder_len(entry));
     let buffer = entry.buffer.to_be_bytes();
     let fields = [
@@ -111,6 +114,7 @@ fn push_stream(out: &mut Vec<u8>, entry: &EsdsEntry)
     requires { length entry.now.info ≤ 65536 }
     ensures { IsPushed out.old out.new (descriptor stream_tag (stream_body entry.now)) }
 {
+    pieces_may_be_cut();
     push_head(out, STREAM, stream_len(entry));
     push_fields(out, &[Field::U16(0), Field::Bytes(&[0])]);
     push_decoder(out, entry);

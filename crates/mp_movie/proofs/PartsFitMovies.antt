@@ -24,7 +24,7 @@ use Rattle.mp_movie.specs.StandsFor.{Hold, HoldTrack, sample_at, samples_of, sta
 use Rattle.mp_movie.specs.WholeParts.{AreColumns, AreParts}
 use Rattle.mp_ports.specs.declared.code.Code.TheVariants.{DeltaLimit, SizeLimit, EntryLimit, SegmentLimit, OffsetLimit, DurationLimit, StartLimit}
 use Rattle.mp_movie.specs.PartsFit.{first_limit, is_long, is_signed, is_wide, limits, passes}
-use Rattle.mp_movie.specs.PartsLaw.{ColumnsAreKept}
+use Rattle.mp_movie.specs.PartsLaw.{AreWithinLimits, ColumnsAreKept, LimitsAreOfTracks}
 use Rattle.mp_movie.proofs.ColumnsInNumbers.{at_place, by_recursion, each_within, largest_within}
 use Rattle.mp_movie.proofs.ColumnsAreKept.{columns_are_kept, count_is, delta_at, size_at}
 use Rattle.mp_movie.proofs.LimitsInOrder.{NoneHolds, each_fails, no_code, none_holds, none_passes}
@@ -233,10 +233,10 @@ fits files movie h hold none =
       tracks = omega (arith, some, length-map tracks (track_for files));
     }
 
-pub limited : (files : List (List ℕ)) (movie : PlacedMovie) → AreParts movie → Hold (map length files) movie → Fits (stands_for files movie) → first_limit movie ≡ None
-limited files movie h hold within =
+-- and the other way round
+pub none_passes_any : (movie : PlacedMovie) → AllByRecursion PassesNone movie.tracks → sample_count movie.tracks ≤ MOST_ITEMS → length movie.tracks ≤ most_tracks → first_limit movie ≡ None
+none_passes_any movie passed few some =
     let tracks = movie.tracks in
-    let passed = tracks_pass files tracks h.columns hold within.each in
     no_code (limits movie) (
       by_test (passes DeltaLimit) tracks (λ track p. p.durations) passed,
       (
@@ -248,9 +248,9 @@ limited files movie h hold within =
             (
               by_test (passes SizeLimit) tracks (λ track p. p.sizes) passed,
               (
-                le-ltb MOST_ITEMS (sample_count tracks) (omega (arith, within.samples, count_for files tracks)),
+                le-ltb MOST_ITEMS (sample_count tracks) few,
                 (
-                  le-ltb most_tracks (length tracks) (omega (arith, within.tracks, length-map tracks (track_for files))),
+                  le-ltb most_tracks (length tracks) some,
                   (
                     by_test (passes EntryLimit) tracks (λ track p. p.entries) passed,
                     (
@@ -265,3 +265,35 @@ limited files movie h hold within =
         ),
       ),
     )
+
+pub limited : (files : List (List ℕ)) (movie : PlacedMovie) → AreParts movie → Hold (map length files) movie → Fits (stands_for files movie) → first_limit movie ≡ None
+limited files movie h hold within =
+    let tracks = movie.tracks in
+    none_passes_any movie (tracks_pass files tracks h.columns hold within.each) (omega (arith, within.samples, count_for files tracks)) (omega (arith, within.tracks, length-map tracks (track_for files)))
+
+-- ---- the limits of a track
+
+size_of_field : (x : ℤ) → FitsUnsigned w32 x → unsigned_abs x < 2 ^ 32
+size_of_field (pos n) fits = omega (arith, ints, fits.1)
+size_of_field (negsuc n) fits = absurd (omega (arith, ints, fits.0))
+
+short_column : (column : List ℤ) → All (FitsUnsigned w32) column → is_long column ≡ false
+short_column column fit = not_long column (λ i lt. size_of_field (get_or column i (pos 0)) (fit i (pos 0) lt))
+
+within_limits : (track : PlacedTrack) → AreWithinLimits track → PassesNone track
+within_limits track h = record {
+  durations = short_column track.deltas h.durations;
+  offsets = not_wide track.offsets h.offsets;
+  short = short_edits track.edits h.edits;
+  early = early_edits track.edits h.edits;
+  sizes = short_column track.sizes h.sizes;
+  entries = le-ltb most_entries (length track.entries) h.entries;
+  segments = few_edits track.edits h.edits;
+}
+
+each_within_limits : (tracks : List PlacedTrack) → AllByRecursion AreWithinLimits tracks → AllByRecursion PassesNone tracks
+each_within_limits [] h = tt
+each_within_limits (track ∷ tracks) h = (within_limits track h.0, each_within_limits tracks h.1)
+
+pub limits_are_of_tracks : LimitsAreOfTracks
+limits_are_of_tracks movie h few some = none_passes_any movie (each_within_limits movie.tracks h) few some

@@ -4,7 +4,7 @@ use Rattle.std.specs.Prelude.{codes, if◌then◌else◌}
 use Rattle.std.specs.List.{list_all}
 use Rattle.mp_boxes.specs.Boxes.{IsBytes}
 use Rattle.mp_timeline.specs.Plain.{unit_matrix, plain_movie_head, plain_track_head}
-use Rattle.mp_movie.specs.Single.{IsMovieHead, IsTrackHead}
+use Rattle.mp_movie.specs.HeadRanges.{IsMovieHead, IsTrackHead}
 
 both : (test others : Bool) → (test && others) ≡ true → (test ≡ true) × (others ≡ true)
 both true others all = (refl, all)

@@ -11,7 +11,7 @@ pub mod SampleTable
 pub mod Edits
 pub mod Tracks
 pub mod Present
-pub mod Single
+pub mod HeadRanges
 pub mod Placed
 pub mod StandsFor
 pub mod WholeParts

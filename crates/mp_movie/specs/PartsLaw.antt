@@ -1,13 +1,17 @@
 -- What the laws of the parts of movies say.
-use Rattle.std.specs.Prelude.{◌≡◌, ◌≤◌, ℕ, ℤ, pos, Bool, ◌+ℤ◌, List, ◌∷◌, [], ◌++◌, length, map, None, sum}
-use Rattle.std.specs.List.{flat_map}
+use Rattle.std.specs.Prelude.{◌≡◌, ◌≤◌, ℕ, ℤ, pos, All, Bool, ◌+ℤ◌, List, ◌∷◌, [], ◌++◌, length, map, IfSome, None, sum}
+use Rattle.std.specs.Int.{w32, FitsUnsigned}
+use Rattle.std.specs.List.{AllByRecursion, flat_map}
+use Rattle.mp_columns.specs.declared.columns.TheConstants.{MOST_ITEMS}
+use Rattle.mp_times.specs.Written.{FitOffsets}
+use Rattle.mp_entries.specs.Description.{most_entries}
 use Rattle.mp_pieces.specs.declared.piece.Piece.{Piece}
 use Rattle.mp_pieces.specs.Piece.{piece_bytes}
 use Rattle.mp_timeline.specs.Movie.{SampleRecord}
 use Rattle.mp_movie.specs.Columns.{composition_offsets, durations, entry_numbers, sizes, sync_marks}
-use Rattle.mp_movie.specs.Limits.{Fits}
+use Rattle.mp_movie.specs.Limits.{Fits, FitsEdits, most_tracks}
 use Rattle.mp_movie.specs.WellFormed.{IsWellFormed}
-use Rattle.mp_movie.specs.Placed.{PlacedTrack, PlacedMovie, naturals, with_sample}
+use Rattle.mp_movie.specs.Placed.{PlacedTrack, PlacedMovie, naturals, sample_count, with_sample}
 use Rattle.mp_movie.specs.StandsFor.{Hold, HoldTrack, samples_of, stands_for}
 use Rattle.mp_movie.specs.WholeParts.{AreColumns, AreParts}
 use Rattle.mp_movie.specs.PartsFit.{first_limit}
@@ -53,3 +57,16 @@ pub record PartsStandForMovies : Type 0 where
 pub record FilesMayFollow : Type 0 where
   pub hold : (sizes more : List ℕ) (movie : PlacedMovie) → Hold sizes movie → Hold (sizes ++ more) movie
   pub same : (files more : List (List ℕ)) (movie : PlacedMovie) → Hold (map length files) movie → stands_for (files ++ more) movie ≡ stands_for files movie
+
+-- the parts of a track pass none of the limits of a track
+pub record AreWithinLimits (track : PlacedTrack) : Type 0 where
+  pub durations : All (FitsUnsigned w32) track.deltas
+  pub offsets : FitOffsets track.offsets
+  pub edits : IfSome track.edits FitsEdits
+  pub sizes : All (FitsUnsigned w32) track.sizes
+  pub entries : length track.entries ≤ most_entries
+
+-- where none of the tracks passes one, and there are neither too many samples nor too many tracks, the movie passes no limit
+abbrev pub LimitsAreOfTracks : Type 0
+LimitsAreOfTracks =
+    (movie : PlacedMovie) → AllByRecursion AreWithinLimits movie.tracks → sample_count movie.tracks ≤ MOST_ITEMS → length movie.tracks ≤ most_tracks → first_limit movie ≡ None

@@ -7,9 +7,9 @@ ghost use Rattle.mp_timeline.specs.Plain.{plain_movie_head, plain_track_head};
 ghost use Rattle.mp_timeline.specs.Same.{HasScales};
 ghost use Rattle.mp_movie.specs.Heads.{media_fields, movie_fields, movie_head, track_fields, track_head};
 ghost use Rattle.mp_movie.specs.Present.{Presents, first_fault, moov_in, movie_of, present};
-ghost use Rattle.mp_movie.specs.Single.{IsMovieHead, IsTrackHead};
+ghost use Rattle.mp_movie.specs.HeadRanges.{IsMovieHead, IsTrackHead};
 ghost use Rattle.mp_movie.specs.WellFormed.{IsWellFormed};
-ghost use Rattle.mp_movie.specs.PartsLaw.{ColumnsAreKept, FilesMayFollow, PartsStandForMovies, SamplesFollow};
+ghost use Rattle.mp_movie.specs.PartsLaw.{ColumnsAreKept, FilesMayFollow, LimitsAreOfTracks, PartsStandForMovies, SamplesFollow};
 
 use mp_timeline::sameness_is_equality;
 
@@ -67,4 +67,10 @@ pub fn parts_stand_for_movies()
 /// Files that are opened later change nothing of what a movie stands for.
 pub fn files_may_follow()
     ensures { FilesMayFollow }
+{}
+
+/// Where none of the tracks passes a limit, and there are neither too many samples nor too many tracks, the
+/// movie passes none.
+pub fn limits_are_of_tracks()
+    ensures { LimitsAreOfTracks }
 {}

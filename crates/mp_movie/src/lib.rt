@@ -23,8 +23,8 @@ mod written;
 
 pub use durations::{media_duration, movie_duration, next_track, track_duration};
 pub use law::{
-    a_sample_follows, columns_are_kept, files_may_follow, heads_are_kept, parts_stand_for_movies,
-    plain_heads_fit, readings_are_guarded, same_movie_is_presented,
+    a_sample_follows, columns_are_kept, files_may_follow, heads_are_kept, limits_are_of_tracks,
+    parts_stand_for_movies, plain_heads_fit, readings_are_guarded, same_movie_is_presented,
 };
 pub use limits::check_fits;
 pub use movie::{Movie, MovieParts};

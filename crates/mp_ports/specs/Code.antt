@@ -1,7 +1,7 @@
 -- The numbers and the names of refusals.
 use Rattle.std.specs.Prelude.{ℕ, List, codes}
 use Rattle.mp_ports.specs.declared.code.Code.{Code}
-use Rattle.mp_ports.specs.declared.code.Code.TheVariants.{BoxCut, BoxSize, BoxMissing, BoxTwice, BoxVersion, Fragmented, Compressed, Encrypted, External, HintTrack, MoovLimit, ScaleZero, TableLength, ChunkMap, CountMismatch, SyncOrder, SampleOutside, EntryIndex, EditRate, EditTime, EditFlags, TrackId, AdtsSync, AdtsCut, AdtsLayer, AdtsBlocks, AdtsChange, AdtsRate, AdtsChannels, AdtsEmpty, UnitFraming, UnitLimit, UnitType, SetSyntax, SetProfile, SetChange, SetMissing, SliceSyntax, FieldPicture, PocType, Marking5, SliceGroups, FirstNotIdr, PocTie, NoPicture, Chroma, Redundant, NhntHead, NhntCut, NhntType, NhntUnit, NhntOrder, NhntRange, NoTrack, BadRange, DelayPastEnd, NotWhole, ScaleLimit, DeltaLimit, OffsetLimit, DurationLimit, StartLimit, SizeLimit, SampleLimit, TrackLimit, EntryLimit, SegmentLimit, IdLimit, EmptyMovie, InputLimit}
+use Rattle.mp_ports.specs.declared.code.Code.TheVariants.{BoxCut, BoxSize, BoxMissing, BoxTwice, BoxVersion, Fragmented, Compressed, Encrypted, External, HintTrack, MoovLimit, ScaleZero, TableLength, ChunkMap, CountMismatch, SyncOrder, SampleOutside, EntryIndex, EditRate, EditTime, EditFlags, TrackId, AdtsSync, AdtsCut, AdtsLayer, AdtsBlocks, AdtsChange, AdtsRate, AdtsChannels, AdtsEmpty, UnitFraming, UnitLimit, UnitType, SetSyntax, SetProfile, SetChange, SetMissing, SliceSyntax, FieldPicture, PocType, Marking5, SliceGroups, FirstNotIdr, PocTie, NoPicture, Chroma, Redundant, NhntHead, NhntCut, NhntType, NhntUnit, NhntOrder, NhntRange, NoTrack, BadRange, DelayPastEnd, NotWhole, ScaleLimit, DeltaLimit, OffsetLimit, DurationLimit, StartLimit, SizeLimit, SampleLimit, TrackLimit, EntryLimit, SegmentLimit, IdLimit, EmptyMovie}
 
 -- the number of a refusal
 abbrev pub number : Code → ℕ
@@ -74,7 +74,6 @@ number EntryLimit = 92
 number SegmentLimit = 93
 number IdLimit = 94
 number EmptyMovie = 95
-number InputLimit = 97
 
 -- its name
 abbrev pub name : Code → List ℕ
@@ -147,4 +146,3 @@ name EntryLimit = codes "EntryLimit"
 name SegmentLimit = codes "SegmentLimit"
 name IdLimit = codes "IdLimit"
 name EmptyMovie = codes "EmptyMovie"
-name InputLimit = codes "InputLimit"

@@ -154,8 +154,6 @@ pub enum Code {
     IdLimit = 94,
     /// The movie that is to be written has no track.
     EmptyMovie = 95,
-    /// An input file is longer than 67,108,864 bytes.
-    InputLimit = 97,
 }
 
 impl Code {
@@ -240,7 +238,6 @@ impl Code {
             Code::SegmentLimit => "SegmentLimit",
             Code::IdLimit => "IdLimit",
             Code::EmptyMovie => "EmptyMovie",
-            Code::InputLimit => "InputLimit",
         }
     }
 }

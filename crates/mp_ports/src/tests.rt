@@ -140,7 +140,7 @@ fn report_in_memory(rt: HostRuntime) -> Result<(), test::Fail> {
 }
 
 // The numbers and names that users see.
-const CODES: [(Code, u32, &[u8]); 70] = [
+const CODES: [(Code, u32, &[u8]); 69] = [
     (Code::BoxCut, 10, b"BoxCut"),
     (Code::BoxSize, 11, b"BoxSize"),
     (Code::BoxMissing, 12, b"BoxMissing"),
@@ -210,7 +210,6 @@ const CODES: [(Code, u32, &[u8]); 70] = [
     (Code::SegmentLimit, 93, b"SegmentLimit"),
     (Code::IdLimit, 94, b"IdLimit"),
     (Code::EmptyMovie, 95, b"EmptyMovie"),
-    (Code::InputLimit, 97, b"InputLimit"),
 ];
 
 #[test]
