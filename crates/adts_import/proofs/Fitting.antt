@@ -1,5 +1,5 @@
 -- The movie of payloads is well formed and within the limits.
-use Rattle.std.proofs.Common.{◌≡◌, ◌⊎◌, ℕ, ℤ, zero, suc, pos, ◌-◌, ◌*◌, ◌^◌, ◌<◌, ◌≤◌, Bool, true, false, nat_lt, not, ◌&&◌, ◌||◌, max, List, [], ◌∷◌, length, map, All, fold, replicate, Option, None, IfSome, Err, refl, ap, sym, ◌∙◌, le-ltb, arith, inl, inr, lit<, lit≤}
+use Rattle.std.proofs.Common.{◌≡◌, ◌⊎◌, ℕ, ℤ, zero, suc, pos, ◌-◌, ◌*◌, ◌^◌, ◌<◌, ◌≤◌, Bool, true, false, nat_lt, not, ◌&&◌, ◌||◌, max, List, [], ◌∷◌, length, map, All, fold, replicate, Option, None, Some, IfSome, Ok, Err, refl, ap, sym, ◌∙◌, le-ltb, arith, inl, inr, lit<, lit≤}
 use Rattle.std.specs.Prelude.{codes, unsigned_abs, get_or, sum}
 use Rattle.std.specs.List.{list_all, sum_by}
 use Rattle.std.proofs.lemmas.List.{length-map, length-replicate, get_or-map}
@@ -21,7 +21,7 @@ use Rattle.mp_columns.specs.Numbers.{largest}
 use Rattle.mp_timeline.specs.Plain.{plain_track_head}
 use Rattle.mp_movie.specs.Placed.{PlacedMovie, naturals, plain_scale, sample_count}
 use Rattle.mp_movie.specs.PartsFit.{first_limit, is_long, is_signed, limits}
-use Rattle.mp_movie.specs.Single.{IsTrackHead}
+use Rattle.mp_movie.specs.HeadRanges.{IsTrackHead}
 use Rattle.mp_movie.specs.StandsFor.{pieces_at}
 use Rattle.mp_movie.specs.WellFormed.{IsEntryBox, IsWellFormedTrack}
 use Rattle.mp_movie.specs.WholeParts.{AreColumns, AreTrackParts, IsNatural, IsEntryNumber, bare_track}
@@ -165,3 +165,8 @@ within_limits stream pieces file size payloads =
 pub not_refused : (fail : Fail) (bad : Bad) (limit : Option Code) (movie : PlacedMovie) → fail ≡ Refused bad → limit ≡ None
     → IfSome (refusal fail) (λ fault. unless (fault_at 0 limit) movie ≡ Err fault) → ⊥
 not_refused fail bad limit movie is none refused = let impossible = rw (is, none) at refused in cc
+
+-- what is given where nothing is at fault
+pub given : {A E : Type 0} (fault : Option E) (value answer : A) → unless fault value ≡ Ok answer → answer ≡ value
+given None value answer e = cc
+given (Some fault) value answer e = cc

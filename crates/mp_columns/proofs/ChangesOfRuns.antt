@@ -1,13 +1,14 @@
 -- What a change of the runs makes of the column.
-use Rattle.std.proofs.Common.{◌≡◌, ◌≢◌, ℕ, zero, suc, ◌+◌, ◌-◌, ◌<◌, ◌≤◌, List, [], ◌∷◌, ◌++◌, length, replicate, map, take, drop, set, All, Option, Some, None, ℤ, pos, ◌+ℤ◌, ◌-ℤ◌, ◌*ℤ◌, ◌≤ℤ◌, refl, sym, ap, subst, ◌∙◌, add-one, arith}
+use Rattle.std.proofs.Common.{◌≡◌, ◌≢◌, ℕ, zero, suc, ◌+◌, ◌-◌, ◌<◌, ◌≤◌, List, [], ◌∷◌, ◌++◌, length, replicate, map, take, drop, get_or, set, All, FitsSigned, w64, Option, Some, None, ℤ, pos, ◌+ℤ◌, ◌-ℤ◌, ◌*ℤ◌, ◌≤ℤ◌, refl, sym, ap, subst, ◌∙◌, add-one, ◌*◌, arith}
 use Rattle.std.specs.Prelude.{negsuc, int_div, int_rem, slice_range}
 use Rattle.std.specs.List.{last_or, AllByRecursion}
 use Rattle.std.proofs.lemmas.Int.{ints}
-use Rattle.std.proofs.lemmas.List.{length-append, length-replicate, length-set, length_push, length-map, get_or_default, take_rest, drop-take, append-nil}
+use Rattle.std.proofs.lemmas.List.{length-append, length-replicate, length-set, length_push, length-map, get_or_default, get_or-map, take_rest, drop-take, append-nil}
 use Rattle.mp_columns.specs.declared.columns.TheConstants.{MOST_ITEMS}
-use Rattle.mp_columns.specs.Kept.{AreKept, AreLongest, AreSums, CanFind, IsColumn, all_items, end_at, items_from, start_at, value_at}
+use Rattle.mp_columns.specs.Kept.{AreKept, AreLongest, AreSums, CanFind, IsColumn, IsSum, all_items, end_at, items_from, start_at, value_at}
 use Rattle.mp_columns.proofs.CutAtRuns.{cut_back, cut_front, followed, grown, items-map, length-from, lowered, run_at, same_count, starts_rise, starts_within}
 use Rattle.mp_columns.proofs.ChangesOfSums.{same_sums, start-push, start-set}
+use Rattle.mp_columns.proofs.SumsOfChanges.{divided_sum, scaled_sum, shifted_sum}
 use Rattle.mp_columns.proofs.Searching.{few_runs, start_next}
 use Rattle.mp_columns.proofs.LastOfRuns.{last_is}
 use Rattle.mp_columns.proofs.Mapping.{exact_quotient}
@@ -179,6 +180,51 @@ scaled k ends values now sums some column is = changed (λ x. x *ℤ pos k) (λ 
 pub divided : (k : ℕ) (ends : List ℕ) (values now sums : List ℤ) → IsColumn ends values sums → All (λ x. int_rem x (pos k) ≡ pos 0) (all_items ends values) → now ≡ map (λ x. int_div x (pos k)) values
     → IsChanged (λ x. int_div x (pos k)) ends values now
 divided k ends values now sums column whole is = changed (λ x. int_div x (pos k)) (λ x. int_rem x (pos k) ≡ pos 0) (λ x y p q e. told_by_quotient k x y p q e) ends values now sums column whole is
+
+-- with the sums of the changed items it is a column
+pub changed_column : (f : ℤ → ℤ) (ends : List ℕ) (values now sums later : List ℤ) → IsChanged f ends values now → IsColumn ends values sums → length later ≡ length sums
+    → ((at : ℕ) → at < length sums → start_at ends (16 * at) ≤ length (all_items ends values) → IsSum (all_items ends values) (start_at ends (16 * at)) (get_or sums at (pos 0))
+    → IsSum (map f (all_items ends values)) (start_at ends (16 * at)) (get_or later at (pos 0)))
+    → IsColumn ends now later
+changed_column f ends values now sums later change column same each = record {
+  longest = change.longest;
+  few = change.few;
+  sums = subst (λ (items : List ℤ). AreSums (length ends) ends items later) (sym change.items) (record {
+    count = same ∙ column.sums.count;
+    each = λ at lt.
+        let inside : at < length sums = omega (arith, lt, same) in
+        each at inside (starts_inside ends values (16 * at) column.longest (omega (arith, inside, column.sums.count))) (column.sums.each at inside);
+  });
+}
+
+pub scaled_column : (k : ℕ) (ends : List ℕ) (values now sums later : List ℤ) → 1 ≤ k → IsColumn ends values sums → All (λ x. FitsSigned w64 (x *ℤ pos k)) (all_items ends values) → now ≡ map (λ x. x *ℤ pos k) values → later ≡ map (λ x. x *ℤ pos k) sums
+    → IsColumn ends now later
+scaled_column k ends values now sums later some column fits is sums_are =
+    let f = λ (x : ℤ). x *ℤ pos k in
+    changed_column f ends values now sums later (scaled k ends values now sums some column is) column (ap length sums_are ∙ length-map sums f) (λ at lt le sum.
+    let now_is : get_or later at (pos 0) ≡ get_or sums at (pos 0) *ℤ pos k = ap (λ (xs : List ℤ). get_or xs at (pos 0)) sums_are ∙ get_or-map f sums at (pos 0) (pos 0) lt in
+    subst (λ (x : ℤ). IsSum (map f (all_items ends values)) (start_at ends (16 * at)) x) (sym now_is) (scaled_sum k (start_at ends (16 * at)) (all_items ends values) (get_or sums at (pos 0)) le fits sum))
+
+pub divided_column : (k : ℕ) (ends : List ℕ) (values now sums later : List ℤ) → 1 ≤ k → IsColumn ends values sums → All (λ x. int_rem x (pos k) ≡ pos 0) (all_items ends values) → now ≡ map (λ x. int_div x (pos k)) values → later ≡ map (λ x. int_div x (pos k)) sums
+    → IsColumn ends now later
+divided_column k ends values now sums later some column whole is sums_are =
+    let f = λ (x : ℤ). int_div x (pos k) in
+    changed_column f ends values now sums later (divided k ends values now sums column whole is) column (ap length sums_are ∙ length-map sums f) (λ at lt le sum.
+    let now_is : get_or later at (pos 0) ≡ int_div (get_or sums at (pos 0)) (pos k) = ap (λ (xs : List ℤ). get_or xs at (pos 0)) sums_are ∙ get_or-map f sums at (pos 0) (pos 0) lt in
+    subst (λ (x : ℤ). IsSum (map f (all_items ends values)) (start_at ends (16 * at)) x) (sym now_is) (divided_sum k (start_at ends (16 * at)) (all_items ends values) (get_or sums at (pos 0)) some whole sum))
+
+pub shifted_column : (by : ℤ) (ends : List ℕ) (values now sums later : List ℤ) → IsColumn ends values sums → All (λ x. FitsSigned w64 (x +ℤ by)) (all_items ends values) → now ≡ map (λ x. x +ℤ by) values → length later ≡ length sums
+    → ((at : ℕ) → at < length sums → get_or later at (pos 0) ≡ get_or sums at (pos 0) +ℤ (by *ℤ pos (start_at ends (16 * at))))
+    → IsColumn ends now later
+shifted_column by ends values now sums later column fits is same each =
+    let f = λ (x : ℤ). x +ℤ by in
+    changed_column f ends values now sums later (shifted by ends values now sums column is) column same (λ at lt le sum.
+    subst (λ (x : ℤ). IsSum (map f (all_items ends values)) (start_at ends (16 * at)) x) (sym (each at lt)) (shifted_sum by (start_at ends (16 * at)) (all_items ends values) (get_or sums at (pos 0)) le fits sum))
+
+-- each sum that is kept fits where it is kept
+pub kept_sum : (ends : List ℕ) (values sums : List ℤ) (P : ℤ → Type 0) → IsColumn ends values sums → ((n : ℕ) (sum : ℤ) → n ≤ length (all_items ends values) → IsSum (all_items ends values) n sum → P sum) → All P sums
+kept_sum ends values sums P column hold at d lt =
+    subst P (get_or_default sums at (pos 0) d lt) (hold (start_at ends (16 * at)) (get_or sums at (pos 0)) (starts_inside ends values (16 * at) column.longest (omega (arith, lt, column.sums.count))) (column.sums.each at lt))
 
 -- ---- all items are 0
 

@@ -8,4 +8,5 @@ pub mod ValuesOfRuns
 pub mod RunsAreKept
 pub mod ChangesOfSums
 pub mod LastOfRuns
+pub mod SumsOfChanges
 pub mod ChangesOfRuns

@@ -1,5 +1,6 @@
 -- A walk that replaces each item by a function of it.
 use Rattle.std.proofs.Common.{◌≡◌, ℕ, suc, ◌+◌, ◌<◌, ◌≤◌, FitsSigned, w64, to_z, of_z, List, [], ◌∷◌, ◌++◌, length, take, drop, map, get_or, set, All, ℤ, pos, ◌+ℤ◌, ◌*ℤ◌, int_div, int_rem, sym, ap, ◌∙◌, append_assoc, arith, refl}
+use mir.Syntax.{Width}
 use Rattle.std.specs.Prelude.{Vec}
 use Rattle.std.specs.Vec.{with_items}
 use Rattle.std.proofs.lemmas.Int.{quot-rem, quot_is, quot_fits, to_z-of_z, ints}
@@ -46,13 +47,13 @@ quotients_times k (x ∷ xs) whole =
     ∙ ap (λ (ys : List ℤ). x ∷ ys) (quotients_times k xs (λ i d lt. whole (suc i) d (omega arith)))
 
 -- the code's product is the product
-pub product_is : (x r : ℤ) (k : ℕ) → r ≡ pos k → FitsSigned w64 x → FitsSigned w64 (pos k) → FitsSigned w64 (x *ℤ pos k) → to_z w64 (of_z w64 (to_z w64 (of_z w64 x) *ℤ to_z w64 (of_z w64 r))) ≡ x *ℤ pos k
-product_is x r k e fits by_fits product_fits = rw (e, to_z-of_z w64 x fits, to_z-of_z w64 (pos k) by_fits, to_z-of_z w64 (x *ℤ pos k) product_fits) refl
+pub product_is : (w : Width) (x r : ℤ) (k : ℕ) → r ≡ pos k → FitsSigned w x → FitsSigned w (pos k) → FitsSigned w (x *ℤ pos k) → to_z w (of_z w (to_z w (of_z w x) *ℤ to_z w (of_z w r))) ≡ x *ℤ pos k
+product_is w x r k e fits by_fits product_fits = rw (e, to_z-of_z w x fits, to_z-of_z w (pos k) by_fits, to_z-of_z w (x *ℤ pos k) product_fits) refl
 
 -- the code's sum is the sum
 pub sum_is : (x by : ℤ) → FitsSigned w64 x → FitsSigned w64 by → FitsSigned w64 (x +ℤ by) → to_z w64 (of_z w64 (to_z w64 (of_z w64 x) +ℤ to_z w64 (of_z w64 by))) ≡ x +ℤ to_z w64 (of_z w64 by)
 sum_is x by fits by_fits sum_fits = rw (to_z-of_z w64 x fits, to_z-of_z w64 by by_fits, to_z-of_z w64 (x +ℤ by) sum_fits) refl
 
 -- the code's quotient is the quotient
-pub quotient_is : (x r : ℤ) (k : ℕ) → r ≡ pos k → 1 ≤ k → FitsSigned w64 x → FitsSigned w64 (pos k) → to_z w64 (of_z w64 (int_div (to_z w64 (of_z w64 x)) (to_z w64 (of_z w64 r)))) ≡ int_div x (pos k)
-quotient_is x r k e some fits by_fits = rw e (quot_is w64 x (pos k) fits by_fits (quot_fits w64 x (pos k) fits (omega (arith, ints))))
+pub quotient_is : (w : Width) (x r : ℤ) (k : ℕ) → r ≡ pos k → 1 ≤ k → FitsSigned w x → FitsSigned w (pos k) → to_z w (of_z w (int_div (to_z w (of_z w x)) (to_z w (of_z w r)))) ≡ int_div x (pos k)
+quotient_is w x r k e some fits by_fits = rw e (quot_is w x (pos k) fits by_fits (quot_fits w x (pos k) fits (omega (arith, ints))))

@@ -10,7 +10,7 @@ use Rattle.mp_columns.specs.Kept.{AreLongest, IsSum, all_items, end_at, start_at
 use Rattle.mp_columns.proofs.CutAtRuns.{IsRunAt, run_at, take_past}
 use Rattle.mp_columns.proofs.Searching.{start_next}
 
-total-from : (a : ℤ) (xs : List ℤ) → fold ◌+ℤ◌ a xs ≡ a +ℤ total xs
+pub total-from : (a : ℤ) (xs : List ℤ) → fold ◌+ℤ◌ a xs ≡ a +ℤ total xs
 total-from a [] = omega (arith, ints)
 total-from a (x ∷ xs) =
     let first = total-from (a +ℤ x) xs in
@@ -20,7 +20,7 @@ total-from a (x ∷ xs) =
 pub total-append : (xs ys : List ℤ) → total (xs ++ ys) ≡ total xs +ℤ total ys
 total-append xs ys = fold-append ◌+ℤ◌ (pos 0) xs ys ∙ total-from (total xs) ys
 
-times_more : (x : ℤ) (n : ℕ) → x *ℤ pos (suc n) ≡ x +ℤ (x *ℤ pos n)
+pub times_more : (x : ℤ) (n : ℕ) → x *ℤ pos (suc n) ≡ x +ℤ (x *ℤ pos n)
 times_more x n = omega (arith, ints)
 
 pub total-replicate : (n : ℕ) (x : ℤ) → total (replicate n x) ≡ x *ℤ pos n
@@ -41,7 +41,7 @@ high_times : (n : ℕ) (x : ℤ) → x ≤ℤ pos (2 ^ 63) → (x *ℤ pos n) �
 high_times zero x high = omega (arith, ints)
 high_times (suc n) x high = let rest = high_times n x high in let more = times_more x n in omega (arith, ints, rest, more)
 
-abs_within : (x : ℤ) (most : ℕ) → neg_ℤ (pos most) ≤ℤ x → x ≤ℤ pos most → unsigned_abs x ≤ most
+pub abs_within : (x : ℤ) (most : ℕ) → neg_ℤ (pos most) ≤ℤ x → x ≤ℤ pos most → unsigned_abs x ≤ most
 abs_within (pos n) most low high = omega (arith, ints, high)
 abs_within (negsuc n) most low high = omega (arith, ints, low)
 

@@ -11,7 +11,7 @@ ghost use Rattle.mp_columns.specs.Runs.{IsLongestRun};
 
 use crate::run::Run;
 use crate::search::{items_in, run_of};
-use crate::sums::{STRIDE, fill_sums, push_sum};
+use crate::sums::{STRIDE, divide_sums, fill_sums, push_sum, scale_sums, shift_sums};
 use crate::walks::{divide_each, keep, lower_each, scale_each, shift_each};
 use mp_ports::NoMemory;
 use std::alloc::Global;
@@ -182,7 +182,7 @@ impl Kept {
         ensures items { listed self.new ≡ map (λ x. x +ℤ by) (listed self.old) }
     {
         shift_each(&mut self.values, by);
-        self.sum_up();
+        shift_sums(&self.ends, &mut self.sums, by);
     }
 
     /// Each item is 0, so that there is one run.
@@ -214,7 +214,7 @@ impl Kept {
             return;
         }
         scale_each(&mut self.values, k);
-        self.sum_up();
+        scale_sums(&mut self.sums, k);
     }
 
     /// Each item divided by `k`.
@@ -226,7 +226,7 @@ impl Kept {
         ensures items { listed self.new ≡ map (λ x. int_div x (pos k)) (listed self.old) }
     {
         divide_each(&mut self.values, k);
-        self.sum_up();
+        divide_sums(&mut self.sums, k);
     }
 }
 

@@ -18,7 +18,7 @@ mod tests;
 mod walks;
 
 pub use columns::{Column, MOST_ITEMS};
-pub use list::{Col, ListColumn};
+pub use list::ListColumn;
 pub use run::{Cursor, Run};
-pub use run_column::RunColumn;
+pub use run_column::{Col, RunColumn};
 pub use steps::Steps;

@@ -11,9 +11,6 @@ use mp_ports::NoMemory;
 use std::alloc::Global;
 use std::marker::Model;
 
-/// The column that all types keep.
-pub type Col = ListColumn;
-
 /// A column that keeps one number for each item.
 #[derive(Drop)]
 pub struct ListColumn {

@@ -17,6 +17,9 @@ use std::alloc::Global;
 use std::marker::Model;
 use std::sync::ledger::Ledger;
 
+/// The column that all types keep.
+pub type Col = RunColumn;
+
 /// A column that keeps its longest runs, each in 13 bytes.
 ///
 /// A value that is equal to the last item takes no memory. An item and a sum are found by a search among

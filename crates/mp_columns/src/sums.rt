@@ -1,7 +1,8 @@
 //! The sums that stand at every sixteenth run.
 
-ghost use Rattle.std.specs.Prelude.{◌≡◌, ◌+◌, ◌*◌, ◌/◌, ◌^◌, ◌≤◌, length, vec_capacity, vec_len};
-ghost use Rattle.std.specs.Prelude.{pos, neg_ℤ, ◌+ℤ◌, ◌*ℤ◌, ◌≤ℤ◌};
+ghost use Rattle.std.specs.Prelude.{◌≡◌, ℕ, ◌+◌, ◌*◌, ◌/◌, ◌^◌, ◌<◌, ◌≤◌, All, FitsSigned, length, map, slice_index_or, vec_capacity, vec_len};
+ghost use Rattle.std.specs.Prelude.{pos, neg_ℤ, ◌+ℤ◌, ◌*ℤ◌, ◌≤ℤ◌, int_div};
+ghost use Rattle.std.specs.Int.{w128};
 ghost use Rattle.mp_columns.specs.declared.columns.TheConstants.{MOST_ITEMS};
 ghost use Rattle.mp_columns.specs.Kept.{AreLongest, AreSums, IsColumn, IsSum, all_items, start_at};
 
@@ -61,5 +62,38 @@ pub(crate) fn push_sum(ends: &[u32], values: &[i64], sums: &mut Vec<i128>)
     if ends.len() % STRIDE == 0 {
         let sum = sum_to(ends, values, sums, items_in(ends));
         let _ = sums.push(sum);
+    }
+}
+
+/// Each sum times `k`.
+pub(crate) fn scale_sums(sums: &mut [i128], k: u32)
+    requires { All (λ x. FitsSigned w128 (x *ℤ pos k)) sums.old }
+    ensures { sums.new ≡ map (λ x. x *ℤ pos k) sums.old }
+{
+    for sum in sums.iter_mut() {
+        *sum *= i128::from(k);
+    }
+}
+
+/// Each sum divided by `k`.
+pub(crate) fn divide_sums(sums: &mut [i128], k: u32)
+    requires { 1 ≤ k }
+    ensures { sums.new ≡ map (λ x. int_div x (pos k)) sums.old }
+{
+    for sum in sums.iter_mut() {
+        *sum /= i128::from(k);
+    }
+}
+
+/// Each sum of items, with `by` added to each of them.
+pub(crate) fn shift_sums(ends: &[u32], sums: &mut [i128], by: i64)
+    requires count { length sums.old ≡ (length ends.now + 15) / 16 }
+    requires low { All (λ x. neg_ℤ (pos (2 ^ 100)) ≤ℤ x) sums.old }
+    requires high { All (λ x. x ≤ℤ pos (2 ^ 100)) sums.old }
+    ensures count { length sums.new ≡ length sums.old }
+    ensures each { (at : ℕ) → at < length sums.old → slice_index_or sums.new at (pos 0) ≡ slice_index_or sums.old at (pos 0) +ℤ (by *ℤ pos (start_at ends.now (16 * at))) }
+{
+    for at in 0..sums.len() {
+        sums[at] = add_run(sums[at], by, start_in(ends, STRIDE * at));
     }
 }

@@ -13,7 +13,7 @@ loop-item-preserved c =
     let item = get_or now i (pos 0) in
     let same : item ≡ get_or old i (pos 0) = comes_unchanged f old i (pos 0) lt now c.loop-item.invariant in
     let fits : FitsSigned w64 item = search rules in
-    one_more f old i (pos 0) lt now _ c.loop-item.invariant (quotient_is item c.from.result c.args.k c.from.ensures c.requires.some fits (search (rules, ints)) ∙ ap f same)
+    one_more f old i (pos 0) lt now _ c.loop-item.invariant (quotient_is w64 item c.from.result c.args.k c.from.ensures c.requires.some fits (search (rules, ints)) ∙ ap f same)
 
 pub returns-clause-exact : goal.returns-clause-exact
 returns-clause-exact c =

@@ -14,4 +14,4 @@ loop-item-preserved c =
     let same : item ≡ get_or old i (pos 0) = comes_unchanged f old i (pos 0) lt now c.loop-item.invariant in
     let fits : FitsSigned w64 item = search rules in
     let product_fits : FitsSigned w64 (item *ℤ pos c.args.k) = rw same (c.requires i (pos 0) lt) in
-    one_more f old i (pos 0) lt now _ c.loop-item.invariant (product_is item c.from.result c.args.k c.from.ensures fits (search (rules, ints)) product_fits ∙ ap f same)
+    one_more f old i (pos 0) lt now _ c.loop-item.invariant (product_is w64 item c.from.result c.args.k c.from.ensures fits (search (rules, ints)) product_fits ∙ ap f same)

@@ -1,0 +1,5 @@
+use Rattle.std.proofs.Common.{◌≡◌, ◌++◌, take, drop, map, pos, int_div}
+use Rattle.mp_columns.proofs.sums.divide_sums.Given as goal
+
+abbrev pub invariant-loop-sum : goal.invariant-loop-sum
+invariant-loop-sum l = l.sums ≡ map (λ x. int_div x (pos l.k)) (take l.sum-index l.fn.sums) ++ drop l.sum-index l.fn.sums
