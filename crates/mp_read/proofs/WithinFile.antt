@@ -16,7 +16,7 @@ use Rattle.mp_read.specs.Movie.{MovieTablesRecord, movie_tables}
 use Rattle.mp_read.specs.Track.{LiesInFile, tables_of}
 
 -- where none of some checks fails, each holds
-all_hold : (checks : List (Option Bad)) → first_some checks ≡ None → AllByRecursion (λ check. check ≡ None) checks
+pub all_hold : (checks : List (Option Bad)) → first_some checks ≡ None → AllByRecursion (λ check. check ≡ None) checks
 all_hold [] e = tt
 all_hold (None ∷ checks) e = (refl, all_hold checks e)
 all_hold (Some bad ∷ checks) e = absurd cc

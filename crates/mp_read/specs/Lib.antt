@@ -6,3 +6,6 @@ pub mod Columns
 pub mod Track
 pub mod Movie
 pub mod Top
+pub mod Parts
+pub mod Law
+pub mod Read

@@ -47,8 +47,32 @@ impl Model for SampleColumns {
     } };
 }
 
+impl SampleColumns {
+    /// These columns.
+    fn of(
+        durations: Col,
+        composition_offsets: Col,
+        sync_marks: Col,
+        places: Places,
+    ) -> SampleColumns
+        ensures { result ≡ record {
+          durations = durations;
+          composition_offsets = composition_offsets;
+          sync_marks = sync_marks;
+          places = places;
+        } }
+    {
+        SampleColumns {
+            durations,
+            composition_offsets,
+            sync_marks,
+            places,
+        }
+    }
+}
+
 /// A column of so many equal items.
-fn copies(alloc: Global, value: i64, count: u32) -> Result<Col, NoMemory>
+pub(crate) fn copies(alloc: Global, value: i64, count: u32) -> Result<Col, NoMemory>
     requires { count ≤ MOST_ITEMS }
     ensures { IfOk result (λ column. column ≡ replicate count value) }
 {
@@ -122,10 +146,5 @@ pub fn read_columns(
     };
     let durations = read_stts(alloc, moov.body(parts.stts), parts.stts.span.place)?;
     let composition_offsets = read_offsets(alloc, moov, parts.ctts, samples)?;
-    Ok(SampleColumns {
-        durations,
-        composition_offsets,
-        sync_marks,
-        places,
-    })
+    Ok(SampleColumns::of(durations, composition_offsets, sync_marks, places))
 }

@@ -9,7 +9,8 @@ ghost use Rattle.mp_ports.specs.Folder.{ReadsFrom, opened_at};
 ghost use Rattle.mp_ports.specs.Reading.{OnlyReads};
 ghost use Rattle.mp_boxes.specs.Boxes.{front_box};
 ghost use Rattle.mp_movie.specs.Present.{first_fault, moov_in, movie_fault};
-ghost use Rattle.mp_read.specs.Movie.{movie_tables};
+ghost use Rattle.mp_read.specs.Movie.{IsRead, movie_tables};
+ghost use Rattle.mp_read.specs.Read.{IsFileRefusal};
 ghost use Rattle.mp_read.specs.Top.{IsInFile};
 ghost use Rattle.mp_read.specs.Track.{LiesInFile};
 
@@ -49,8 +50,10 @@ fn read_bytes(alloc: Global, bytes: &[u8], found: FileBox, size: u64) -> Result<
     requires inside { IsInFile size found }
     requires len { length bytes.now ≡ found.head.len }
     requires short { found.head.len ≤ MOST_MOOV }
-    ensures { let box = front_box found.head found.place bytes.now in
+    ensures movie { let box = front_box found.head found.place bytes.now in
         Gives refusal (λ movie. movie) result (unless (movie_fault size box) (movie_tables box)) }
+    ensures read { IfOk result (IsRead size) }
+    ensures refusal { IfErr result (λ fail. IfSome (refusal fail) IsFileRefusal) }
 {
     let moov = Moov {
         bytes,
@@ -81,6 +84,8 @@ pub fn read_tables<F: Folder>(
     // Told or not, its samples lie in the file.
     ensures inside { IfOk result (λ movie.
         AllByRecursion (LiesInFile (opened_at (F.state folder.old) file).size) movie.tracks) }
+    ensures read { IfOk result (IsRead (opened_at (F.state folder.old) file).size) }
+    ensures refusal { IfErr result (λ fail. IfSome (read_refusal fail) IsFileRefusal) }
     ensures folder { OnlyReads result (F.state folder.old) (F.state folder.new) }
 {
     let size = folder.size(file);

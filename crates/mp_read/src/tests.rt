@@ -2,24 +2,44 @@
 
 mod faults;
 mod first_bytes;
+mod long_files;
+mod movies;
 mod spellings;
 
-use crate::{MovieTables, read_tables};
-use mp_ports::{Folder, MemFile, MemFolder, OpenFail, ReadFail};
+use crate::read_movie;
+use mp_movie::Movie;
+use mp_ports::{Bad, Code, Folder, MemFile, MemFolder, OpenFail, ReadFail};
 use std::alloc::{AllocError, Global};
 
-/// What is read of a file of these bytes.
-fn read(alloc: Global, bytes: &[u8]) -> Result<Result<MovieTables, ReadFail>, AllocError> {
+/// The movie of a file of these bytes, where the calls of these numbers fail.
+fn read_failing(
+    alloc: Global,
+    bytes: &[u8],
+    failing: &[u64],
+) -> Result<Result<Movie, ReadFail>, AllocError> {
     let mut files = Vec::new(alloc);
     files.push(MemFile {
         name: String::from_str(alloc, "a")?,
         bytes: Vec::from_slice(alloc, bytes)?,
     })?;
-    let mut folder = MemFolder::new(alloc, files, Vec::new(alloc));
+    let mut folder = MemFolder::new(alloc, files, Vec::from_slice(alloc, failing)?);
     match folder.open("a") {
-        Ok(file) => Ok(read_tables(alloc, &mut folder, file)),
+        Ok(file) => Ok(read_movie(alloc, &mut folder, file)),
         Err(OpenFail::NoMemory) => Ok(Err(ReadFail::NoMemory)),
         Err(_) => Ok(Err(ReadFail::ReadFault)),
+    }
+}
+
+/// The movie of a file of these bytes.
+fn read(alloc: Global, bytes: &[u8]) -> Result<Result<Movie, ReadFail>, AllocError> {
+    read_failing(alloc, bytes, &[])
+}
+
+/// Whether a file of these bytes is refused with that code at that place.
+fn refuses(alloc: Global, bytes: &[u8], code: Code, place: u64) -> Result<bool, AllocError> {
+    match read(alloc, bytes)? {
+        Err(ReadFail::Bad(bad)) => Ok(bad == Bad::at(code, place)),
+        _ => Ok(false),
     }
 }
 

@@ -1,6 +1,6 @@
 //! The movie box of a file, found by the heads of the boxes at its top (ISO/IEC 14496-12, 4.2 and 8.2.1).
 
-ghost use Rattle.std.specs.Prelude.{◌≡◌, ◌<◌, ◌≤◌, ℕ, List, IfOk, IfSome, OnOk, Ok, Some, true, codes, drop, length};
+ghost use Rattle.std.specs.Prelude.{◌≡◌, ◌<◌, ◌≤◌, ℕ, List, IfErr, IfOk, IfSome, OnOk, Ok, Some, true, codes, drop, length};
 ghost use Rattle.mp_ports.specs.Checks.{Checks, placed};
 ghost use Rattle.mp_ports.specs.Gives.{Gives, read_refusal};
 ghost use Rattle.mp_ports.specs.Folder.{opened_at};
@@ -11,6 +11,7 @@ ghost use Rattle.mp_boxes.specs.Child.{of_kind, one_of};
 ghost use Rattle.mp_boxes.specs.Head.{head_at};
 ghost use Rattle.mp_movie.specs.Children.{has_none};
 ghost use Rattle.mp_movie.specs.Present.{top_boxes};
+ghost use Rattle.mp_read.specs.Read.{IsFileRefusal, is_file_code};
 ghost use Rattle.mp_read.specs.Top.{AreSeen, FindsMoov, IsInFile, IsSameWindow, box_at, none_seen, seen_with};
 
 use mp_boxes::{TopHead, head_of, heads_are_read};
@@ -77,8 +78,9 @@ impl Seen {
 
     /// Whether none was seen; the code at the first.
     fn check_none(self, code: Code) -> Result<(), Bad>
-        ensures { (file kind : List ℕ) (boxes : List Box) → AreSeen file kind boxes self
+        ensures none { (file kind : List ℕ) (boxes : List Box) → AreSeen file kind boxes self
             → Checks result (has_none code kind boxes) }
+        ensures refusal { is_file_code code ≡ true → IfErr result IsFileRefusal }
     {
         match self.first {
             Some(found) => Err(Bad::at(code, found.place)),
@@ -91,6 +93,7 @@ impl Seen {
         ensures one { (file kind : List ℕ) (boxes : List Box) → AreSeen file kind boxes self
             → Gives Some (box_at file) result (one_of size (of_kind kind boxes)) }
         ensures first { IfOk result (λ found. self.first ≡ Some found) }
+        ensures refusal { IfErr result IsFileRefusal }
     {
         match (self.first, self.second) {
             (None, _) => Err(Bad::at(Code::BoxMissing, size)),
@@ -123,6 +126,7 @@ fn next_head<F: Folder>(
     ensures head { IfSome (opened_at (F.state folder.old) window.old.file).bytes
         (λ bytes. Gives read_refusal (λ head. head) result (placed at (head_at true (drop at bytes)))) }
     ensures inside { IfOk result (λ head. IsInFile size (record { place = at; head = head })) }
+    ensures refusal { IfErr result (λ fail. IfSome (read_refusal fail) IsFileRefusal) }
     ensures window { OnOk result (IsSameWindow (F.state folder.new) window.old window.new) }
     ensures folder { OnlyReads result (F.state folder.old) (F.state folder.new) }
 {
@@ -145,6 +149,7 @@ fn moov_of(fragment: Seen, compressed: Seen, moov: Seen, size: u64) -> Result<Fi
         → AreSeen file (codes "moof") boxes fragment → AreSeen file (codes "!mov") boxes compressed
         → AreSeen file (codes "moov") boxes moov → FindsMoov Some file result }
     ensures first { IfOk result (λ found. moov.first ≡ Some found) }
+    ensures refusal { IfErr result IsFileRefusal }
 {
     fragment.check_none(Code::Fragmented)?;
     compressed.check_none(Code::Compressed)?;
@@ -163,6 +168,7 @@ pub(crate) fn find_moov<F: Folder>(
     requires { file < length (F.state folder.old).opened }
     ensures found { IfSome (opened_at (F.state folder.old) file).bytes (λ bytes. FindsMoov read_refusal bytes result) }
     ensures inside { IfOk result (IsInFile (opened_at (F.state folder.old) file).size) }
+    ensures refusal { IfErr result (λ fail. IfSome (read_refusal fail) IsFileRefusal) }
     ensures folder { OnlyReads result (F.state folder.old) (F.state folder.new) }
 {
     let size = folder.size(file);

@@ -127,7 +127,9 @@ pub fn read_trak(
     let local = &information.local;
     let table = read_sample_table(alloc, moov, information.table, local, before, file_size)?;
     let edits = read_edits(alloc, moov, parts.edits)?;
-    let head = head_of(alloc, moov, trak, &parts.header, &media)?;
+    let Ok(head) = head_of(alloc, moov, trak, &parts.header, &media) else {
+        return Err(Fail::NoMemory);
+    };
     Ok(TrackTables {
         number: parts.header.number,
         head,

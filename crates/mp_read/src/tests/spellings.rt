@@ -1,8 +1,8 @@
 //! A file that spells what may be spelled in several ways in the ways that are seldom seen.
 
 use super::read;
-use crate::{SampleColumns, TrackTables};
 use mp_columns::{Col, Column};
+use mp_movie::{Piece, Track};
 use mp_timeline::Segment;
 use std::process::Abort;
 use std::test;
@@ -10,7 +10,7 @@ use std::test;
 /// Boxes in another order than usual, of 64-bit sizes, of the type `uuid`, and of size 0 at the end. Two boxes of
 /// user data each in `moov` and in the first track. The first track has headers, edits and offsets of version 1,
 /// sizes of 4 bits, 64-bit offsets, two entries, `stss` without a number, and a data reference of flags 3.
-const FILE: [u8; 1105] = [
+pub(super) const FILE: [u8; 1105] = [
     0, 0, 0, 9, 102, 114, 101, 101, 120, 0, 0, 4, 56, 109, 111, 111, 118, 0, 0, 0, 9, 117, 100,
     116, 97, 65, 0, 0, 2, 86, 116, 114, 97, 107, 0, 0, 0, 104, 116, 107, 104, 100, 1, 0, 0, 0, 0,
     0, 0, 0, 0, 0, 0, 1, 0, 0, 0, 0, 0, 0, 0, 2, 0, 0, 0, 7, 0, 0, 0, 0, 0, 0, 0, 0, 0, 0, 0, 0, 0,
@@ -63,34 +63,37 @@ fn item(column: &Col, at: u32) -> Option<i64> {
     }
 }
 
-// The samples are these: duration, composition offset, sync mark, size, entry, place.
-fn check(rt: &impl Abort, columns: &SampleColumns, wanted: &[(i64, i64, i64, i64, i64, u64)]) {
-    assert_eq!(rt; columns.durations.len() as usize, wanted.len());
+// The samples are these: duration, composition offset, sync mark, size, entry, place. Each is one piece.
+pub(super) fn check(rt: &impl Abort, track: &Track, wanted: &[(i64, i64, i64, u32, i64, u64)]) {
+    assert_eq!(rt; track.deltas.len() as usize, wanted.len());
     let mut at = 0;
     for (duration, offset, mark, size, kind, from) in wanted {
+        assert_eq!(rt; item(&track.deltas, at), Some(*duration), "sample {at}");
+        assert_eq!(rt; item(&track.offsets, at), Some(*offset), "sample {at}");
+        assert_eq!(rt; item(&track.syncs, at), Some(*mark), "sample {at}");
         assert_eq!(rt;
-            item(&columns.durations, at),
-            Some(*duration),
+            item(&track.sizes, at),
+            Some(i64::from(*size)),
             "sample {at}"
         );
+        assert_eq!(rt; item(&track.kinds, at), Some(*kind), "sample {at}");
+        assert_eq!(rt; item(&track.counts, at), Some(1), "sample {at}");
+        let piece = Piece {
+            file: 0,
+            from: *from,
+            len: *size,
+            prefix: None,
+        };
         assert_eq!(rt;
-            item(&columns.composition_offsets, at),
-            Some(*offset),
-            "sample {at}"
-        );
-        assert_eq!(rt; item(&columns.sync_marks, at), Some(*mark), "sample {at}");
-        assert_eq!(rt; item(&columns.places.sizes, at), Some(*size), "sample {at}");
-        assert_eq!(rt; item(&columns.places.kinds, at), Some(*kind), "sample {at}");
-        assert_eq!(rt;
-            columns.places.from.get(at as usize).copied(),
-            Some(*from),
+            track.pieces.get(at as usize).copied(),
+            Some(piece),
             "sample {at}"
         );
         at = at.saturating_add(1);
     }
 }
 
-fn check_first(rt: &impl Abort, track: &TrackTables) {
+fn check_first(rt: &impl Abort, track: &Track) {
     assert_eq!(rt; (track.number, track.scale), (7, 600));
     assert_eq!(rt; (track.head.created, track.head.media_modified), (1, 4));
     assert_eq!(rt; track.head.name.as_slice(), b"a\0b".as_slice());
@@ -108,7 +111,7 @@ fn check_first(rt: &impl Abort, track: &TrackTables) {
     }
     check(
         rt,
-        &track.columns,
+        track,
         &[
             (10, -5, 0, 2, 1, 1097),
             (10, 20, 0, 1, 1, 1099),
@@ -117,15 +120,11 @@ fn check_first(rt: &impl Abort, track: &TrackTables) {
     );
 }
 
-fn check_second(rt: &impl Abort, track: &TrackTables) {
+fn check_second(rt: &impl Abort, track: &Track) {
     assert_eq!(rt; (track.number, track.scale), (3, 1000));
     assert_eq!(rt; track.head.udta.len(), 0);
     assert!(rt; track.edits.is_none());
-    check(
-        rt,
-        &track.columns,
-        &[(7, 0, 1, 1, 1, 1100), (7, 0, 1, 1, 1, 1101)],
-    );
+    check(rt, track, &[(7, 0, 1, 1, 1, 1100), (7, 0, 1, 1, 1, 1101)]);
 }
 
 #[test]
@@ -133,13 +132,13 @@ fn file_in_unusual_spelling_is_read(rt: HostRuntime) -> Result<(), test::Fail> {
     let Ok(movie) = read(rt.alloc(), &FILE)? else {
         panic!(&rt; "a refusal");
     };
-    assert_eq!(rt; movie.scale, 100);
-    assert_eq!(rt; movie.head.udta.as_slice(), b"\0\0\0\x09udtaA".as_slice());
-    assert_eq!(rt; movie.tracks.len(), 2);
-    if let Some(track) = movie.tracks.first() {
+    assert_eq!(rt; movie.scale(), 100);
+    assert_eq!(rt; movie.head().udta.as_slice(), b"\0\0\0\x09udtaA".as_slice());
+    assert_eq!(rt; movie.tracks().len(), 2);
+    if let Some(track) = movie.tracks().first() {
         check_first(&rt, track);
     }
-    if let Some(track) = movie.tracks.last() {
+    if let Some(track) = movie.tracks().last() {
         check_second(&rt, track);
     }
     Ok(())

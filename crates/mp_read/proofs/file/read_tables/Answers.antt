@@ -7,4 +7,4 @@ returns-then-found-gt-MOST_MOOV-clause-movie g c =
     too_long _ c.size-size.result c.in_ok-found.found _ c.in_ok-found.ensures.found c.size-size.ensures.told (rw (← c.size-size.ensures.size) at c.in_ok-found.ensures.inside) c.if-found-gt-MOST_MOOV.true c.at.ensures
 
 pub returns-clause-inside : goal.returns-clause-inside
-returns-clause-inside g c = rw (← c.size-size.ensures.size) (movie_inside c.size-size.result _ _ c.in_ok-read_bytes.ensures)
+returns-clause-inside g c = rw (← c.size-size.ensures.size) (movie_inside c.size-size.result _ _ c.in_ok-read_bytes.ensures.movie)
