@@ -1,0 +1,9 @@
+pub mod Numbers
+pub mod Heads
+pub mod Tracks
+pub mod Scales
+pub mod Limits
+pub mod Adding
+pub mod Does
+pub mod Kept
+pub mod Summed
