@@ -1,0 +1,5 @@
+pub mod Clipped
+pub mod Shape
+pub mod Law
+pub mod Cut
+pub mod Counted

@@ -1,0 +1,14 @@
+//! The pieces of an edit list in a range of time, with no time rounded (ISO/IEC 14496-12, 8.6.6).
+//!
+//! [`clip_shape`] says which scales the pieces need, and [`clip`] makes them in ticks of such scales.
+#![tactic(auto)]
+
+mod clipping;
+mod cut;
+mod law;
+mod shape;
+mod tally;
+
+pub use clipping::clip;
+pub use law::shapes_can_be_told;
+pub use shape::{ClipShape, clip_shape};

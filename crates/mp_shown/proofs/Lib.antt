@@ -1,0 +1,5 @@
+pub mod Places
+pub mod SameTimes
+pub mod FinerTimes
+pub mod PiecesShow
+pub mod ByFractions

@@ -1,0 +1,5 @@
+pub mod Segments
+pub mod Shown
+pub mod Fractions
+pub mod Law
+pub mod Place
