@@ -1,4 +1,6 @@
 pub mod OptionSteps
+pub mod Inputs
 pub mod Sounds
 pub mod Writes
 pub mod Outcomes
+pub mod Dumps

@@ -10,18 +10,18 @@ use Rattle.mp_timeline.specs.Movie.{TrackRecord, MovieRecord}
 use Rattle.mp_timeline.specs.Plain.{plain_movie_head}
 use Rattle.mp_movie.specs.Placed.{PlacedTrack, PlacedMovie, sample_count as placed_count}
 use Rattle.mp_movie.specs.StandsFor.{Hold, sample_at, samples_of, stands_for, track_for}
+use Rattle.adts_import.specs.Stream.{stream_movie}
 use Rattle.mp_layout.specs.Emitted.{AreTold}
 use Rattle.mp_layout.specs.File.{file_bytes, moov_fault}
 use Rattle.mp_layout.specs.Plan.{FilePlanRecord, IsFileOf, IsPlanOf, Plans}
 use Rattle.mp_layout.specs.Written.{IsOneChunk}
-use Rattle.mp_words.specs.Line.{WordFault}
 use Rattle.mp4edit.specs.declared.input.InputFail.{InputFail}
 use Rattle.mp4edit.specs.declared.input.InputFail.TheVariants.{Missing}
 use Rattle.mp4edit.specs.Line.{line, sample_count, wrote}
 use Rattle.mp4edit.specs.Outcome.{Outcome, Absent, Movie, Refusal, input_outcome, outcome, output_fault, output_outcome}
 use Rattle.mp4edit.specs.Reading.{GivesInput, IsOutcome, told_files}
 use Rattle.mp4edit.specs.Run.{HasWritten, HasWrittenFront}
-use Rattle.mp4edit.specs.Words.{JobRecord}
+use Rattle.mp4edit.specs.Words.{ImportRecord}
 use Rattle.mp4edit.specs.Written.{LeavesFront, WritesWhole}
 
 -- what holds, holds of each value
@@ -41,18 +41,13 @@ refused_outcome : (command : ℕ) (movie : MovieRecord) (bad : Bad) → (length 
 refused_outcome command movie bad some fault = rw (some, fault) refl
 
 -- the outcome of a job by that of its input
-by_input : (job : JobRecord) (files : List HeldFile) (input : Outcome) → job.window ≡ 0 → input_outcome job.command (bytes_under job.input files) ≡ input → outcome job files ≡ output_outcome job.out_command 0 input
+by_input : (job : ImportRecord) (files : List HeldFile) (input : Outcome) → job.window ≡ 0 → input_outcome stream_movie job.command (bytes_under job.input files) ≡ input → outcome job files ≡ output_outcome job.out_command 0 input
 unfolding outcome
 by_input job files input window is = rw (window, is) refl
 
--- what is so of the outcome of the job, is so of that of the line
-pub of_line : (line : Result JobRecord WordFault) (held : Option (List HeldFile)) (job : JobRecord) (P : JobRecord → Outcome → Type 0) → line ≡ Ok job
-    → IfSome held (λ files. P job (outcome job files)) → IfOk line (λ job. IfSome held (λ files. P job (outcome job files)))
-of_line line held job P is p = subst (λ (l : Result JobRecord WordFault). IfOk l (λ job. IfSome held (λ files. P job (outcome job files)))) (sym is) p
-
 -- the input is missing or refused, and so is the job
-pub fails : (held : Option (List HeldFile)) (job : JobRecord) (s : FolderState) (fail : InputFail) → job.window ≡ 0
-    → IfSome held (λ files. GivesInput {A = PlacedMovie} (λ movie. movie) (Err fail) s (input_outcome job.command (bytes_under job.input files)) job.command)
+pub fails : (held : Option (List HeldFile)) (job : ImportRecord) (s : FolderState) (fail : InputFail) → job.window ≡ 0
+    → IfSome held (λ files. GivesInput {A = PlacedMovie} (λ movie. movie) (Err fail) s (input_outcome stream_movie job.command (bytes_under job.input files)) job.command)
     → IfSome held (λ files. GivesInput {A = PlacedMovie × FilePlanRecord} (λ planned. planned.0) (Err fail) s (outcome job files) job.command)
 fails None job s fail window gives = tt
 fails (Some files) job s (InputFail.Bad bad) window gives = by_input job files (Refusal bad) window gives
@@ -61,9 +56,9 @@ fails (Some files) job s InputFail.ReadFault window gives = tt
 fails (Some files) job s InputFail.NoMemory window gives = tt
 
 -- a movie that can't be planned is refused under the option that writes it
-pub unplanned : (held : Option (List HeldFile)) (job : JobRecord) (s : FolderState) (movie : PlacedMovie) (fail : Fail) (bad : Bad) (command : ℕ) → job.window ≡ 0 → job.out_command ≡ command → IsOneChunk movie → fail ≡ Fail.Bad bad
+pub unplanned : (held : Option (List HeldFile)) (job : ImportRecord) (s : FolderState) (movie : PlacedMovie) (fail : Fail) (bad : Bad) (command : ℕ) → job.window ≡ 0 → job.out_command ≡ command → IsOneChunk movie → fail ≡ Fail.Bad bad
     → ((files : List (List ℕ)) → Hold (map length files) movie → Plans (Err fail) (stands_for files movie))
-    → IfSome held (λ files. IsOutcome s movie (input_outcome job.command (bytes_under job.input files)))
+    → IfSome held (λ files. IsOutcome s movie (input_outcome stream_movie job.command (bytes_under job.input files)))
     → IfSome held (λ files. outcome job files ≡ Refusal (record bad { command = command }))
 unplanned None job s movie fail bad command window out one is faults gives = tt
 unplanned (Some files) job s movie fail bad command window out one is faults gives =
@@ -73,8 +68,8 @@ unplanned (Some files) job s movie fail bad command window out one is faults giv
     ∙ ap (λ (c : ℕ). Refusal (record bad { command = c })) out)
 
 -- a movie that is planned is the outcome
-pub planned : (held : Option (List HeldFile)) (job : JobRecord) (s : FolderState) (movie : PlacedMovie) (plan : FilePlanRecord) → job.window ≡ 0 → IsOneChunk movie → IsPlanOf plan movie
-    → IfSome held (λ files. IsOutcome s movie (input_outcome job.command (bytes_under job.input files)))
+pub planned : (held : Option (List HeldFile)) (job : ImportRecord) (s : FolderState) (movie : PlacedMovie) (plan : FilePlanRecord) → job.window ≡ 0 → IsOneChunk movie → IsPlanOf plan movie
+    → IfSome held (λ files. IsOutcome s movie (input_outcome stream_movie job.command (bytes_under job.input files)))
     → IfSome held (λ files. IsOutcome s movie (outcome job files))
 planned None job s movie plan window one plans gives = tt
 planned (Some files) job s movie plan window one plans gives = record {
@@ -84,7 +79,7 @@ planned (Some files) job s movie plan window one plans gives = record {
 }
 
 -- what holds of the movie, holds of the outcome
-pub of_outcome : (held : Option (List HeldFile)) (job : JobRecord) (s : FolderState) (movie : PlacedMovie) (P : Outcome → Type 0)
+pub of_outcome : (held : Option (List HeldFile)) (job : ImportRecord) (s : FolderState) (movie : PlacedMovie) (P : Outcome → Type 0)
     → IfSome held (λ files. IsOutcome s movie (outcome job files)) → (AreTold s movie (told_files s) → P (Movie (stands_for (told_files s) movie))) → IfSome held (λ files. P (outcome job files))
 of_outcome None job s movie P is p = tt
 of_outcome (Some files) job s movie P is p = subst P (sym is.stands) (p is.told)

@@ -8,10 +8,11 @@ use Rattle.mp_layout.specs.File.{file_bytes}
 use Rattle.mp_layout.specs.Plan.{IsFileOf}
 use Rattle.mp4edit.specs.declared.ending.Ending.{Ending}
 use Rattle.mp4edit.specs.declared.ending.Ending.TheVariants.{Done, Words, Refused, NoFile, ReadFault, WriteFault, ReportFault, NoMemory}
+use Rattle.mp_timeline.specs.Movie.{MovieRecord}
 use Rattle.mp_words.specs.Line.{WordFault}
-use Rattle.mp4edit.specs.Words.{JobRecord}
-use Rattle.mp4edit.specs.Outcome.{Outcome, Movie, Refusal, Absent, IsMovieAnd}
-use Rattle.mp4edit.specs.Line.{line}
+use Rattle.mp4edit.specs.Words.{DumpRecord, ImportRecord, JobRecord}
+use Rattle.mp4edit.specs.Outcome.{Outcome, Movie, Refusal, Absent, IsMovieAnd, dump_outcome, outcome}
+use Rattle.mp4edit.specs.Line.{line, text_of}
 
 -- each fault has its cause: of the counts only the one of that kind rose, and the files held are the same
 pub record HasCauses (ending : Ending) (old new : FolderState) (before after : ReportState) : Type 0 where
@@ -33,6 +34,11 @@ abbrev pub AnswersWords : Ending → Result JobRecord WordFault → Type 0
 AnswersWords (Words word kind) job = job ≡ Err (word, kind)
 AnswersWords NoMemory job = Unit
 AnswersWords _ job = IsOk job
+
+-- it is no ending of a line that is no job
+abbrev pub IsOfJob : Ending → Type 0
+IsOfJob (Words word kind) = ⊥
+IsOfJob _ = Unit
 
 -- the folder and the report are as they were
 abbrev pub IsUntouched : FolderState → FolderState → ReportState → ReportState → Type 0
@@ -87,11 +93,11 @@ Tells (Refused bad) outcome window new = outcome ≡ Refusal bad
 Tells (NoFile command) outcome window new = outcome ≡ Absent command
 Tells _ outcome window new = Unit
 
--- what was said: the line at `Done`, the front of it at `ReportFault`
-abbrev pub SaysLine : Ending → Outcome → JobRecord → ReportState → ReportState → Type 0
-SaysLine Done outcome job before after = IsMovieAnd outcome (λ movie. Says before after (line job.out movie job.window))
-SaysLine ReportFault outcome job before after = IsMovieAnd outcome (λ movie. FailsToSay before after (line job.out movie job.window))
-SaysLine _ outcome job before after = after.said ≡ before.said
+-- what was said: the text of the outcome's movie at `Done`, a front of it at `ReportFault`
+abbrev pub SaysText : Ending → Outcome → (MovieRecord → List ℕ) → ReportState → ReportState → Type 0
+SaysText Done outcome text before after = IsMovieAnd outcome (λ movie. Says before after (text movie))
+SaysText ReportFault outcome text before after = IsMovieAnd outcome (λ movie. FailsToSay before after (text movie))
+SaysText _ outcome text before after = after.said ≡ before.said
 
 -- that ending, or want of memory
 abbrev pub EndsAt : Ending → Ending → Type 0
@@ -103,3 +109,25 @@ Completes ending (Movie movie) old new before after =
     ¬ Rose old.read_faults new.read_faults → ¬ Rose old.write_faults new.write_faults → ¬ Rose before.faults after.faults → EndsAt ending Done
 Completes ending (Refusal bad) old new before after = ¬ Rose old.read_faults new.read_faults → EndsAt ending (Refused bad)
 Completes ending (Absent command) old new before after = ¬ Rose old.read_faults new.read_faults → EndsAt ending (NoFile command)
+
+-- what a job that imports a file and writes it leaves behind, opens, and says of its outcome where the folder tells
+pub record EndsImport (ending : Ending) (job : ImportRecord) (old new : FolderState) (before after : ReportState) : Type 0 where
+  pub inputs : AreInputs job.input old.held new.opened
+  pub left : Leaves ending job.out old new
+  pub told : IfSome old.held (λ files. Tells ending (outcome job files) job.window new)
+  pub said : IfSome old.held (λ files. SaysText ending (outcome job files) (λ movie. line job.out movie job.window) before after)
+  pub complete : IfSome old.held (λ files. Completes ending (outcome job files) old new before after)
+
+-- a refusal, or a file that is missing, is the outcome
+abbrev pub TellsFault : Ending → Outcome → Type 0
+TellsFault (Refused bad) outcome = outcome ≡ Refusal bad
+TellsFault (NoFile command) outcome = outcome ≡ Absent command
+TellsFault _ outcome = Unit
+
+-- and a job that tells of a file: it creates nothing, and says the text of the file's movie
+pub record EndsDump (ending : Ending) (job : DumpRecord) (old new : FolderState) (before after : ReportState) : Type 0 where
+  pub inputs : AreInputs job.name old.held new.opened
+  pub left : CreatesNothing old new
+  pub told : IfSome old.held (λ files. TellsFault ending (dump_outcome job.name files))
+  pub said : IfSome old.held (λ files. SaysText ending (dump_outcome job.name files) (text_of job.kind) before after)
+  pub complete : IfSome old.held (λ files. Completes ending (dump_outcome job.name files) old new before after)

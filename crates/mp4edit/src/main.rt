@@ -7,7 +7,9 @@ ghost use Rattle.mp4edit.specs.Run.{AnswersWords};
 ghost use Rattle.mp4edit.specs.Status.{status, IsStatusOf};
 ghost use Rattle.mp4edit.specs.Words.{job};
 
+mod dump;
 mod ending;
+mod import;
 mod input;
 mod line;
 mod message;

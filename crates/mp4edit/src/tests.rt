@@ -1,6 +1,8 @@
 // Whole runs over a folder and a report in memory.
 ghost use Rattle.std.specs.Prelude.{◌≡◌, ◌<◌, [], None, IfOk, vec_len};
 
+mod dumps;
+
 use crate::{Ending, WordKind, mp4edit};
 use mp_ports::{Bad, Code, MemFile, MemFolder, MemReport};
 use std::alloc::Global;
@@ -198,7 +200,7 @@ fn streams_are_written(rt: HostRuntime) -> Result<(), Fail> {
 fn what_is_refused_is_not_written(rt: HostRuntime) -> Result<(), Fail> {
     let alloc = rt.alloc();
     let job = &["-add", "a.aac", "-out", "b.mp4"];
-    let rows: [(&[&str], &[u8], Ending); 23] = [
+    let rows: [(&[&str], &[u8], Ending); 22] = [
         (job, b"", refused(Code::AdtsEmpty, 0)),
         (
             job,
@@ -288,7 +290,6 @@ fn what_is_refused_is_not_written(rt: HostRuntime) -> Result<(), Fail> {
             fault(3, WordKind::NotYet),
         ),
         (&["-out", "b.mp4"], FRAME, fault(1, WordKind::NotYet)),
-        (&["-info", "a.mp4"], FRAME, fault(1, WordKind::NotYet)),
         (&["-gen", "50"], FRAME, fault(1, WordKind::NotYet)),
     ];
     for (texts, bytes, ending) in rows {

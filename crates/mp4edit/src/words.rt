@@ -2,17 +2,42 @@
 ghost use Rattle.std.specs.Prelude.{◌≡◌, ◌<◌, ◌≤◌, ◌*◌, ◌-◌, ◌^◌, false, length, map, string_bytes, IfSome, IfOk};
 ghost use Rattle.mp_words.specs.Answers.{job_record};
 ghost use Rattle.mp_words.specs.Names.{kind_of};
-ghost use Rattle.mp4edit.specs.Words.{added_behind, first_unbuilt, is_adts, job, with_input};
-ghost use Rattle.mp4edit.specs.Reading.{GivesJob};
+ghost use Rattle.mp4edit.specs.Words.{added_behind, built_job, first_unbuilt, is_adts, is_dump, job, with_input};
+ghost use Rattle.mp4edit.specs.Reading.{GivesJob, HasOneWindow};
 
-use mp_words::{Command, FileKind, Job, What, WordFail, WordKind, kind_of, read_words};
+use mp_words::{Command, DumpKind, FileKind, Job, What, WordFail, WordKind, kind_of, read_words};
 use std::alloc::Global;
 use std::marker::Model;
 
-/// A job that is built: the option `command` imports the file `input`, a stream of ADTS frames, and the
-/// option `out_command` writes the file `out`, with chunks of `window` milliseconds (0: of any length).
+/// A job that is built.
 #[derive(Drop)]
-pub struct BuiltJob {
+pub enum BuiltJob {
+    /// Import a file, and write it.
+    Import(ImportJob),
+    /// Tell of a file.
+    Dump(DumpJob),
+}
+
+/// What is told, and the name of the file.
+#[derive(Drop)]
+pub struct DumpJob {
+    pub kind: DumpKind,
+    pub name: String,
+}
+
+impl Model for DumpJob {
+    ghost use Rattle.std.specs.Prelude.{string_bytes};
+    ghost use Rattle.mp4edit.specs.Words.{DumpRecord};
+
+    ghost Value = { DumpRecord };
+
+    ghost view = { λ j. record { kind = j.kind; name = string_bytes j.name } };
+}
+
+/// The option `command` imports the file `input`, a stream of ADTS frames, and the option `out_command`
+/// writes the file `out`, with chunks of `window` milliseconds (0: of any length).
+#[derive(Drop)]
+pub struct ImportJob {
     pub input: String,
     pub command: u32,
     pub out: String,
@@ -20,11 +45,11 @@ pub struct BuiltJob {
     pub window: u32,
 }
 
-impl Model for BuiltJob {
+impl Model for ImportJob {
     ghost use Rattle.std.specs.Prelude.{string_bytes};
-    ghost use Rattle.mp4edit.specs.Words.{JobRecord};
+    ghost use Rattle.mp4edit.specs.Words.{ImportRecord};
 
-    ghost Value = { JobRecord };
+    ghost Value = { ImportRecord };
 
     ghost view = { λ j. record {
       input = string_bytes j.input;
@@ -42,7 +67,7 @@ impl Model for BuiltJob {
 pub fn read_job(alloc: Global, words: &[String]) -> Result<BuiltJob, WordFail>
     requires { length words.now < 2 ^ 32 }
     ensures job { GivesJob result (job (map string_bytes words.now)) }
-    ensures window { IfOk result (λ job. job.window ≡ 0) }
+    ensures window { IfOk result HasOneWindow }
 {
     let line = match read_words(alloc, words) {
         Ok(line) => line,
@@ -51,7 +76,7 @@ pub fn read_job(alloc: Global, words: &[String]) -> Result<BuiltJob, WordFail>
     if let Some(place) = first_unbuilt(words) {
         return Err(not_yet(place));
     }
-    with_input(line)
+    built(line)
 }
 
 fn not_yet(place: u32) -> WordFail
@@ -90,7 +115,7 @@ fn first_unbuilt(words: &[String]) -> Option<u32>
 fn added_behind(added: bool, option: &str, argument: &str) -> Option<bool>
     ensures { result ≡ added_behind added option.now argument.now }
 {
-    if option == "-out" {
+    if option == "-out" || is_dump(option) {
         return Some(added);
     }
     if option == "-add" && is_adts_name(argument) && !added {
@@ -105,20 +130,38 @@ fn is_adts_name(name: &str) -> bool
     matches!(kind_of(name), Some(FileKind::Adts))
 }
 
-/// The job of a line with one input.
-fn with_input(line: Job) -> Result<BuiltJob, WordFail>
-    ensures job { GivesJob result (with_input (job_record line)) }
-    ensures window { IfOk result (λ job. job.window ≡ 0) }
+fn is_dump(option: &str) -> bool
+    ensures { result ≡ is_dump option.now }
 {
-    let Job::Edit {
-        mut commands,
-        out,
-        out_command,
-        window: _,
-    } = line
-    else {
-        return Err(not_yet(1));
-    };
+    option == "-info" || option == "-timeline" || option == "-json"
+}
+
+/// The job of a line whose options are built.
+fn built(line: Job) -> Result<BuiltJob, WordFail>
+    ensures job { GivesJob result (built_job (job_record line)) }
+    ensures window { IfOk result HasOneWindow }
+{
+    match line {
+        Job::Edit {
+            commands,
+            out,
+            out_command,
+            window: _,
+        } => with_input(commands, out, out_command),
+        Job::Dump { kind, name } => Ok(BuiltJob::Dump(DumpJob { kind, name })),
+        Job::Gen { n: _ } => Err(not_yet(1)),
+    }
+}
+
+/// The job of a line with one input.
+fn with_input(
+    mut commands: Vec<Command>,
+    out: String,
+    out_command: u32,
+) -> Result<BuiltJob, WordFail>
+    ensures job { GivesJob result (with_input commands.items (string_bytes out) out_command) }
+    ensures window { IfOk result HasOneWindow }
+{
     if commands.len() != 1 {
         return Err(not_yet(1));
     }
@@ -128,11 +171,11 @@ fn with_input(line: Job) -> Result<BuiltJob, WordFail>
     let What::Add { name, .. } = what else {
         return Err(not_yet(1));
     };
-    Ok(BuiltJob {
+    Ok(BuiltJob::Import(ImportJob {
         input: name,
         command: place,
         out,
         out_command,
         window: 0,
-    })
+    }))
 }
