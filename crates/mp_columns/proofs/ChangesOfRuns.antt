@@ -1,13 +1,13 @@
 -- What a change of the runs makes of the column.
-use Rattle.std.proofs.Common.{◌≡◌, ◌≢◌, ℕ, zero, suc, ◌+◌, ◌-◌, ◌<◌, ◌≤◌, List, [], ◌∷◌, ◌++◌, length, replicate, map, take, drop, get_or, set, All, FitsSigned, w64, Option, Some, None, ℤ, pos, ◌+ℤ◌, ◌-ℤ◌, ◌*ℤ◌, ◌≤ℤ◌, refl, sym, ap, subst, ◌∙◌, add-one, ◌*◌, arith}
+use Rattle.std.proofs.Common.{◌≡◌, ◌≢◌, ℕ, zero, suc, ◌+◌, ◌-◌, ◌<◌, ◌≤◌, List, [], ◌∷◌, ◌++◌, length, replicate, map, take, drop, get_or, set, All, FitsSigned, w64, Option, Some, None, ℤ, pos, ◌+ℤ◌, ◌-ℤ◌, ◌*ℤ◌, ◌≤ℤ◌, refl, sym, ap, subst, ◌∙◌, add-one, ◌*◌, ◌/◌, arith}
 use Rattle.std.specs.Prelude.{negsuc, int_div, int_rem, slice_range}
 use Rattle.std.specs.List.{last_or, AllByRecursion}
 use Rattle.std.proofs.lemmas.Int.{ints}
-use Rattle.std.proofs.lemmas.List.{length-append, length-replicate, length-set, length_push, length-map, get_or_default, get_or-map, take_rest, drop-take, append-nil}
+use Rattle.std.proofs.lemmas.List.{length-append, length-replicate, length-set, length-take, length-take-le, length_push, length-map, get_or_default, get_or-map, take_rest, drop-take, append-nil}
 use Rattle.mp_columns.specs.declared.columns.TheConstants.{MOST_ITEMS}
 use Rattle.mp_columns.specs.Kept.{AreKept, AreLongest, AreSums, CanFind, IsColumn, IsSum, all_items, end_at, items_from, start_at, value_at}
 use Rattle.mp_columns.proofs.CutAtRuns.{cut_back, cut_front, followed, grown, items-map, length-from, lowered, run_at, same_count, starts_rise, starts_within}
-use Rattle.mp_columns.proofs.ChangesOfSums.{same_sums, start-push, start-set}
+use Rattle.mp_columns.proofs.ChangesOfSums.{cut_sums, same_sums, start-push, start-set}
 use Rattle.mp_columns.proofs.SumsOfChanges.{divided_sum, scaled_sum, shifted_sum}
 use Rattle.mp_columns.proofs.Searching.{few_runs, start_next}
 use Rattle.mp_columns.proofs.LastOfRuns.{last_is}
@@ -98,6 +98,23 @@ cut_after ends values run to longest lt begun ended =
     let c = cut_back 0 None ends values run to longest lt begun ended in
     let none : to - 0 ≡ to = omega arith in
     rw (add-one run) (c.0, c.1 ∙ ap (λ (n : ℕ). take n (all_items ends values)) none)
+
+-- with the sums of the runs that are left it is a column
+pub cut_column : (ends : List ℕ) (values sums : List ℤ) (run to : ℕ) → IsColumn ends values sums → run < length ends → start_at ends run < to → to ≤ end_at ends run
+    → IsColumn (set (take (run + 1) ends) run to) (take (run + 1) values) (take (run / 16 + 1) sums) × (all_items (set (take (run + 1) ends) run to) (take (run + 1) values) ≡ take to (all_items ends values))
+cut_column ends values sums run to column lt begun ended =
+    let c = cut_after ends values run to column.longest lt begun ended in
+    let later = set (take (run + 1) ends) run to in
+    let left : length later ≡ run + 1 = length-set (take (run + 1) ends) run to ∙ length-take-le (run + 1) ends (omega (arith, lt)) in
+    let kept = cut_sums ends (all_items ends values) sums run to (λ k inside. (run_at 0 None ends values k column.longest inside).longer) lt (omega (arith, begun)) column.sums in
+    let few : length (take to (all_items ends values)) ≤ length (all_items ends values) = omega (arith, length-take to (all_items ends values)) in (
+      record {
+        longest = c.0;
+        few = omega (arith, ap length c.1, few, column.few);
+        sums = rw (left, c.1) kept;
+      },
+      c.1,
+    )
 
 pub cut_before : (ends : List ℕ) (values : List ℤ) (run from : ℕ) → AreLongest ends values → run < length ends → start_at ends run ≤ from → from < end_at ends run
     → AreLongest (map (λ end. end - from) (drop run ends)) (drop run values) × (all_items (map (λ end. end - from) (drop run ends)) (drop run values) ≡ drop from (all_items ends values))

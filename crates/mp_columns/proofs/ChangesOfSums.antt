@@ -1,9 +1,10 @@
 -- Sums that stay when items follow.
-use Rattle.std.proofs.Common.{◌≡◌, ℕ, zero, suc, ◌+◌, ◌*◌, ◌/◌, ◌<◌, ◌≤◌, List, [], ◌∷◌, ◌++◌, length, take, get_or, set, ℤ, pos, refl, sym, ap, subst, ◌∙◌, arith, inl, inr, ◌⊎◌, ◌%◌}
-use Rattle.std.proofs.lemmas.List.{take-append-le, get_or_append_left, get_or-set_same, get_or-set_other, get_or_push, length_push}
+use Rattle.std.proofs.Common.{◌≡◌, ℕ, zero, suc, ◌+◌, ◌-◌, ◌*◌, ◌/◌, ◌<◌, ◌≤◌, List, [], ◌∷◌, ◌++◌, length, take, get_or, set, ℤ, pos, refl, sym, ap, subst, ◌∙◌, arith, inl, inr, ◌⊎◌, ◌%◌}
+use Rattle.std.proofs.lemmas.List.{take-append-le, take-take, length-take-le, get_or-take, get_or_append_left, get_or-set_same, get_or-set_other, get_or_push, length_push}
 use Rattle.std.proofs.lemmas.Bool.{cases_lt}
 use Rattle.mp_columns.specs.Numbers.{total}
-use Rattle.mp_columns.specs.Kept.{AreSums, IsSum, start_at}
+use Rattle.mp_columns.specs.Kept.{AreSums, IsSum, end_at, start_at}
+use Rattle.mp_columns.proofs.Searching.{rises_by}
 
 -- the sum of the first items is the same in a longer list
 pub same_sum : (items more longer : List ℤ) (count : ℕ) (sum : ℤ) → longer ≡ items ++ more → count ≤ length items → IsSum items count sum → IsSum longer count sum
@@ -32,6 +33,32 @@ start-set ends last end (suc run) le = get_or-set_other ends last run end 0 (λ 
 pub start-push : (ends : List ℕ) (end run : ℕ) → run ≤ length ends → start_at (ends ++ end ∷ []) run ≡ start_at ends run
 start-push ends end zero le = refl
 start-push ends end (suc run) le = get_or_append_left ends (end ∷ []) 0 run (omega (arith, le))
+
+-- nor that runs behind it are gone
+start-take : (ends : List ℕ) (count run : ℕ) → run ≤ count → start_at (take count ends) run ≡ start_at ends run
+start-take ends count zero le = refl
+start-take ends count (suc run) le = get_or-take count ends run 0 (omega (arith, le))
+
+-- the sum of the first items is the same where those behind them are gone
+fewer_items : (items : List ℤ) (to count : ℕ) (sum : ℤ) → count ≤ to → IsSum items count sum → IsSum (take to items) count sum
+fewer_items items to count sum le was = record { is = was.is ∙ ap total (sym (take-take count to items le)); low = was.low; high = was.high }
+
+-- the sums that are left where a run is the last one, and ends earlier
+pub cut_sums : (ends : List ℕ) (items sums : List ℤ) (run to : ℕ) → ((k : ℕ) → k < length ends → start_at ends k < end_at ends k) → run < length ends → start_at ends run ≤ to → AreSums (length ends) ends items sums
+    → AreSums (run + 1) (set (take (run + 1) ends) run to) (take to items) (take (run / 16 + 1) sums)
+cut_sums ends items sums run to rising lt begun were =
+    let left = length-take-le (run / 16 + 1) sums (omega (arith, lt, were.count)) in
+    record {
+      count = omega (arith, left);
+      each = λ at less.
+          let before : 16 * at ≤ run = omega (arith, less, left) in
+          let parts : 16 * at + (run - 16 * at) ≡ run = omega (arith, before) in
+          let rise = rises_by ends (16 * at) (run - 16 * at) rising (omega (arith, parts, lt)) in
+          let whole : start_at ends (16 * at + (run - 16 * at)) ≡ start_at ends run = ap (start_at ends) parts in
+          let same = start-set (take (run + 1) ends) run to (16 * at) before ∙ start-take ends (run + 1) (16 * at) (omega (arith, before)) in
+          rw (same, get_or-take (run / 16 + 1) sums at (pos 0) (omega (arith, before)))
+          (fewer_items items to (start_at ends (16 * at)) (get_or sums at (pos 0)) (omega (arith, rise, whole, begun)) (were.each at (omega (arith, before, lt, were.count))));
+    }
 
 -- ---- one sum more
 

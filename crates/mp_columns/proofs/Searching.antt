@@ -21,7 +21,7 @@ last_end [] i lt = absurd (omega arith)
 last_end (end ∷ ends) i lt = let one : suc (length ends) - 1 ≡ length ends = omega arith in rw one lt
 
 -- so many runs have at least so many items
-rises_by : (ends : List ℕ) (run more : ℕ) → ((k : ℕ) → k < length ends → start_at ends k < end_at ends k) → run + more ≤ length ends → start_at ends run + more ≤ start_at ends (run + more)
+pub rises_by : (ends : List ℕ) (run more : ℕ) → ((k : ℕ) → k < length ends → start_at ends k < end_at ends k) → run + more ≤ length ends → start_at ends run + more ≤ start_at ends (run + more)
 rises_by ends run zero rising le = let none : run + 0 ≡ run = omega arith in rw none (omega arith)
 rises_by ends run (suc more) rising le =
     let next : run + suc more ≡ run + more + 1 = omega arith in

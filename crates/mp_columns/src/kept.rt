@@ -76,8 +76,7 @@ impl Kept {
     {
         self.ends.reserve(1)?;
         self.values.reserve(1)?;
-        self.sums.reserve(1)?;
-        push_sum(&self.ends, &self.values, &mut self.sums);
+        push_sum(&self.ends, &self.values, &mut self.sums)?;
         let end = items_in(&self.ends) + count;
         let _ = self.ends.push(end);
         let _ = self.values.push(value);
@@ -134,16 +133,15 @@ impl Kept {
 
     /// Only the first `to` items are left.
     fn keep_first(&mut self, to: u32)
-        requires longest { AreLongest self.old.ends.items self.old.values.items }
+        requires column { Stands self.old }
         requires some { 0 < to }
         requires inside { to ≤ length (listed self.old) }
-        ensures runs { AreRunsOf (take to (listed self.old)) self.new }
-        ensures fewer { length self.new.ends.items ≤ length self.old.ends.items }
-        ensures sums { self.new.sums ≡ self.old.sums }
+        ensures { IsColumnOf (take to (listed self.old)) self.new }
     {
         let run = run_of(&self.ends, to - 1);
         self.ends.truncate(run + 1);
         self.values.truncate(run + 1);
+        self.sums.truncate(run / STRIDE + 1);
         self.ends[run] = to;
     }
 
@@ -170,6 +168,9 @@ impl Kept {
             return;
         }
         self.keep_first(to);
+        if from == 0 {
+            return;
+        }
         self.drop_first(from);
         self.sum_up();
     }

@@ -1,12 +1,13 @@
 //! The sums that stand at every sixteenth run.
 
-ghost use Rattle.std.specs.Prelude.{◌≡◌, ℕ, ◌+◌, ◌*◌, ◌/◌, ◌^◌, ◌<◌, ◌≤◌, All, FitsSigned, length, map, slice_index_or, vec_capacity, vec_len};
+ghost use Rattle.std.specs.Prelude.{◌≡◌, ℕ, ◌+◌, ◌*◌, ◌/◌, ◌^◌, ◌<◌, ◌≤◌, All, FitsSigned, length, OnErr, OnOk, map, slice_index_or};
 ghost use Rattle.std.specs.Prelude.{pos, neg_ℤ, ◌+ℤ◌, ◌*ℤ◌, ◌≤ℤ◌, int_div};
 ghost use Rattle.std.specs.Int.{w128};
 ghost use Rattle.mp_columns.specs.declared.columns.TheConstants.{MOST_ITEMS};
 ghost use Rattle.mp_columns.specs.Kept.{AreLongest, AreSums, IsColumn, IsSum, all_items, start_at};
 
 use crate::search::{items_in, run_of, start_in};
+use mp_ports::NoMemory;
 
 /// A sum is kept at every so many runs.
 pub(crate) const STRIDE: usize = 16;
@@ -53,16 +54,19 @@ pub(crate) fn fill_sums(ends: &[u32], values: &[i64], sums: &mut [i128])
     }
 }
 
-/// Pushes the sum of all items, where the next run is a sixteenth one.
-pub(crate) fn push_sum(ends: &[u32], values: &[i64], sums: &mut Vec<i128>)
-    requires column { IsColumn ends.now values.now sums.old.items }
-    requires room { vec_len sums.old + 1 ≤ vec_capacity sums.old }
-    ensures { AreSums (length ends.now + 1) ends.now (all_items ends.now values.now) sums.new.items }
+/// Pushes the sum of all items, where the next run is a sixteenth one; only there it takes memory.
+pub(crate) fn push_sum(ends: &[u32], values: &[i64], sums: &mut Vec<i128>) -> Result<(), NoMemory>
+    requires { IsColumn ends.now values.now sums.old.items }
+    ensures ok { OnOk result (AreSums (length ends.now + 1) ends.now (all_items ends.now values.now) sums.new.items) }
+    ensures err { OnErr result (sums.new.items ≡ sums.old.items) }
 {
-    if ends.len() % STRIDE == 0 {
-        let sum = sum_to(ends, values, sums, items_in(ends));
-        let _ = sums.push(sum);
+    if ends.len() % STRIDE != 0 {
+        return Ok(());
     }
+    sums.reserve(1)?;
+    let sum = sum_to(ends, values, sums, items_in(ends));
+    let _ = sums.push(sum);
+    Ok(())
 }
 
 /// Each sum times `k`.
@@ -91,7 +95,9 @@ pub(crate) fn shift_sums(ends: &[u32], sums: &mut [i128], by: i64)
     requires low { All (λ x. neg_ℤ (pos (2 ^ 100)) ≤ℤ x) sums.old }
     requires high { All (λ x. x ≤ℤ pos (2 ^ 100)) sums.old }
     ensures count { length sums.new ≡ length sums.old }
-    ensures each { (at : ℕ) → at < length sums.old → slice_index_or sums.new at (pos 0) ≡ slice_index_or sums.old at (pos 0) +ℤ (by *ℤ pos (start_at ends.now (16 * at))) }
+    ensures each { (at : ℕ) → at < length sums.old
+        → slice_index_or sums.new at (pos 0)
+        ≡ slice_index_or sums.old at (pos 0) +ℤ (by *ℤ pos (start_at ends.now (16 * at))) }
 {
     for at in 0..sums.len() {
         sums[at] = add_run(sums[at], by, start_in(ends, STRIDE * at));

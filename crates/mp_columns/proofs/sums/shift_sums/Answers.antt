@@ -1,4 +1,4 @@
-use Rattle.std.proofs.Common.{rules, arith, ◌≡◌, ◌<◌, ◌≤◌, ◌*◌, ℕ, ℤ, pos, ◌+ℤ◌, ◌*ℤ◌, get_or, length, w64, to_z, of_z, None, ◌∙◌}
+use Rattle.std.proofs.Common.{rules, arith, ◌<◌, ◌*◌, ℕ, ℤ, pos, ◌+ℤ◌, ◌*ℤ◌, length, w64, to_z, of_z, ◌∙◌}
 use Rattle.std.proofs.lemmas.List.{length-set, get_or-set_other}
 use Rattle.mp_columns.specs.Kept.{start_at}
 use Rattle.mp_columns.proofs.SumsOfChanges.{one_replaced}

@@ -1,4 +1,4 @@
-use Rattle.std.proofs.Common.{arith, ◌≡◌, ◌<◌, ◌*◌, ◌^◌, ℕ, List, length, get_or, ap, ◌∙◌, ◌*ℤ◌, ℤ, pos, neg_ℤ, ◌≤ℤ◌, map, All, FitsSigned, w64, to_z, of_z, subst, ◌+ℤ◌, None, sym}
+use Rattle.std.proofs.Common.{arith, ◌≡◌, ◌*◌, ◌^◌, ℕ, List, length, get_or, ap, ◌∙◌, ◌*ℤ◌, ℤ, pos, neg_ℤ, ◌≤ℤ◌, map, All, FitsSigned, w64, to_z, of_z, subst, ◌+ℤ◌, None, sym}
 use Rattle.std.proofs.lemmas.Int.{to_z-of_z}
 use Rattle.std.proofs.lemmas.List.{with_items_is}
 use Rattle.mp_columns.specs.Kept.{start_at}
