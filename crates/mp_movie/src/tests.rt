@@ -69,12 +69,32 @@ fn edits(alloc: Global, case: Case) -> Result<Option<Vec<Segment>>, NoMemory> {
     Ok(Some(edits))
 }
 
-fn track(rt: &impl Abort, alloc: Global, case: Case) -> Result<Track, NoMemory> {
+fn with_entries(alloc: Global, case: Case) -> Result<Track, NoMemory> {
     let head = TrackHead::plain(alloc, *b"vide")?;
-    let mut track = Track::new(alloc, 1, head, 1000, entries(alloc, case.entries)?);
+    let entries = entries(alloc, case.entries)?;
+    Ok(Track::new(alloc, 1, head, 1000, entries))
+}
+
+fn with_deltas(rt: &impl Abort, alloc: Global, case: Case) -> Result<Track, NoMemory> {
+    let mut track = with_entries(alloc, case)?;
     track.deltas = column(rt, alloc, case.deltas)?;
+    Ok(track)
+}
+
+fn with_offsets(rt: &impl Abort, alloc: Global, case: Case) -> Result<Track, NoMemory> {
+    let mut track = with_deltas(rt, alloc, case)?;
     track.offsets = column(rt, alloc, case.offsets)?;
+    Ok(track)
+}
+
+fn with_sizes(rt: &impl Abort, alloc: Global, case: Case) -> Result<Track, NoMemory> {
+    let mut track = with_offsets(rt, alloc, case)?;
     track.sizes = column(rt, alloc, case.sizes)?;
+    Ok(track)
+}
+
+fn track(rt: &impl Abort, alloc: Global, case: Case) -> Result<Track, NoMemory> {
+    let mut track = with_sizes(rt, alloc, case)?;
     track.edits = edits(alloc, case)?;
     Ok(track)
 }

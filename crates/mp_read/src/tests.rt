@@ -10,6 +10,8 @@ use crate::read_movie;
 use mp_movie::Movie;
 use mp_ports::{Bad, Code, Folder, MemFile, MemFolder, OpenFail, ReadFail};
 use std::alloc::{AllocError, Global};
+use std::process::Abort;
+use std::test;
 
 /// The movie of a file of these bytes, where the calls of these numbers fail.
 fn read_failing(
@@ -35,12 +37,26 @@ fn read(alloc: Global, bytes: &[u8]) -> Result<Result<Movie, ReadFail>, AllocErr
     read_failing(alloc, bytes, &[])
 }
 
-/// Whether a file of these bytes is refused with that code at that place.
-fn refuses(alloc: Global, bytes: &[u8], code: Code, place: u64) -> Result<bool, AllocError> {
+/// What a file of these bytes is refused for, if it isn't read.
+fn refusal(alloc: Global, bytes: &[u8]) -> Result<Option<Bad>, AllocError> {
     match read(alloc, bytes)? {
-        Err(ReadFail::Bad(bad)) => Ok(bad == Bad::at(code, place)),
-        _ => Ok(false),
+        Ok(_) => Ok(None),
+        Err(ReadFail::Bad(bad)) => Ok(Some(bad)),
+        Err(_) => Err(AllocError),
     }
+}
+
+// A file of these bytes is refused so.
+fn check_refused(
+    rt: &impl Abort,
+    alloc: Global,
+    bytes: &[u8],
+    code: Code,
+    place: usize,
+) -> Result<(), test::Fail> {
+    let wanted = Bad::at(code, place as u64);
+    assert_eq!(rt; refusal(alloc, bytes)?, Some(wanted));
+    Ok(())
 }
 
 /// Writes bytes over those at a place.

@@ -1,7 +1,7 @@
 //! Files with faults, each of which is refused for the first of them.
 
-use super::{put, read};
-use mp_ports::{Bad, Code, ReadFail};
+use super::{check_refused, put, refusal};
+use mp_ports::Code;
 use std::alloc::{AllocError, Global};
 use std::process::Abort;
 use std::test;
@@ -192,19 +192,15 @@ fn check(
     faults: &[(usize, &[u8], Code, usize)],
 ) -> Result<(), test::Fail> {
     let bytes = file_with(alloc, faults)?;
-    let Some((at, _, code, place)) = faults.first() else {
+    let Some((_, _, code, place)) = faults.first() else {
         return Ok(());
     };
-    match read(alloc, &bytes)? {
-        Err(ReadFail::Bad(bad)) => assert_eq!(rt; bad, Bad::at(*code, *place as u64), "at {at}"),
-        _ => panic!(rt; "no refusal for the fault at {at}"),
-    }
-    Ok(())
+    check_refused(rt, alloc, &bytes, *code, *place)
 }
 
 #[test]
 fn file_without_faults_is_read(rt: HostRuntime) -> Result<(), test::Fail> {
-    assert!(rt; read(rt.alloc(), &FILE)?.is_ok());
+    assert_eq!(rt; refusal(rt.alloc(), &FILE)?, None);
     Ok(())
 }
 
@@ -214,6 +210,23 @@ fn each_fault_comes_before_those_behind_it(rt: HostRuntime) -> Result<(), test::
         check(&rt, rt.alloc(), &FAULTS[i..=i])?;
         check(&rt, rt.alloc(), &FAULTS[i..FAULTS.len().min(i + 2)])?;
         check(&rt, rt.alloc(), &FAULTS[i..])?;
+    }
+    Ok(())
+}
+
+/// Where two boxes are counted and stand, one of them too short for an entry.
+#[test]
+fn entries_that_are_too_short_are_refused(rt: HostRuntime) -> Result<(), test::Fail> {
+    // Behind the length of the data references, which takes in the box behind them, and of the sample entries.
+    let references = b"\x24dref\0\0\0\0\0\0\0\x02\0\0\0\x09url \x01\0\0\0\x0Burl \0\0\x01";
+    let entries = b"\0\0\0\x02\0\0\0\x08mp4a\0\0\0\x08mp4a";
+    for (at, new, place) in [
+        (DREF + 3, references.as_slice(), DREF),
+        (STSD + 12, entries.as_slice(), STSD),
+    ] {
+        let mut bytes = Vec::from_slice(rt.alloc(), &FILE)?;
+        put(&mut bytes, at, new);
+        check_refused(&rt, rt.alloc(), &bytes, Code::TableLength, place)?;
     }
     Ok(())
 }

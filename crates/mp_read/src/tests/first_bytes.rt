@@ -1,9 +1,7 @@
 //! A file of one sample of sound, its first bytes, and its fields changed.
 
-use super::{put, read};
-use mp_ports::{Bad, Code, ReadFail};
-use std::alloc::Global;
-use std::process::Abort;
+use super::{check_refused, put};
+use mp_ports::Code;
 use std::test;
 
 /// The file, byte by byte from the standard: `ftyp` of 28 bytes, `moov` of 540, `mdat` of 10.
@@ -40,23 +38,8 @@ const STSZ: usize = 528;
 
 const STCO: usize = 548;
 
-// The file of these bytes is refused so.
-fn check(
-    rt: &impl Abort,
-    alloc: Global,
-    bytes: &[u8],
-    code: Code,
-    place: u64,
-) -> Result<(), test::Fail> {
-    match read(alloc, bytes)? {
-        Err(ReadFail::Bad(bad)) => assert_eq!(rt; bad, Bad::at(code, place)),
-        _ => panic!(rt; "no refusal"),
-    }
-    Ok(())
-}
-
 // What the first `n` bytes are refused for, if they are.
-fn fault_of_first(n: usize) -> Option<(Code, u64)> {
+fn fault_of_first(n: usize) -> Option<(Code, usize)> {
     match n {
         0 => Some((Code::BoxMissing, 0)),
         1..=27 => Some((Code::BoxCut, 0)),
@@ -72,7 +55,7 @@ fn fault_of_first(n: usize) -> Option<(Code, u64)> {
 fn first_bytes_are_refused(rt: HostRuntime) -> Result<(), test::Fail> {
     for n in 0..FILE.len() {
         if let Some((code, place)) = fault_of_first(n) {
-            check(&rt, rt.alloc(), &FILE[..n], code, place)?;
+            check_refused(&rt, rt.alloc(), &FILE[..n], code, place)?;
         }
     }
     Ok(())
@@ -82,7 +65,7 @@ fn first_bytes_are_refused(rt: HostRuntime) -> Result<(), test::Fail> {
 fn changed_fields_are_refused(rt: HostRuntime) -> Result<(), test::Fail> {
     let all = [255; 4];
     // A place of the file, the bytes that stand there instead, and the refusal.
-    let cases: [(usize, &[u8], Code, u64); 5] = [
+    let cases: [(usize, &[u8], Code, usize); 5] = [
         (STTS + 16, &[0, 0, 0, 2], Code::CountMismatch, 476),
         (STSC + 20, &all, Code::ChunkMap, 500),
         (STCO + 12, &all, Code::TableLength, 548),
@@ -92,7 +75,7 @@ fn changed_fields_are_refused(rt: HostRuntime) -> Result<(), test::Fail> {
     for (at, new, code, place) in cases {
         let mut bytes = Vec::from_slice(rt.alloc(), &FILE)?;
         put(&mut bytes, at, new);
-        check(&rt, rt.alloc(), &bytes, code, place)?;
+        check_refused(&rt, rt.alloc(), &bytes, code, place)?;
     }
     Ok(())
 }
@@ -102,12 +85,12 @@ fn too_many_samples_are_refused(rt: HostRuntime) -> Result<(), test::Fail> {
     let mut bytes = Vec::from_slice(rt.alloc(), &FILE)?;
     put(&mut bytes, STTS + 16, &[255; 4]);
     put(&mut bytes, STSZ + 12, &[0, 0, 0, 1, 255, 255, 255, 255]);
-    check(&rt, rt.alloc(), &bytes, Code::SampleLimit, 0)
+    check_refused(&rt, rt.alloc(), &bytes, Code::SampleLimit, 0)
 }
 
 #[test]
 fn fragments_behind_a_whole_movie_are_refused(rt: HostRuntime) -> Result<(), test::Fail> {
     let mut bytes = Vec::from_slice(rt.alloc(), &FILE)?;
     bytes.extend_from_slice(&[0, 0, 0, 8, b'm', b'o', b'o', b'f'])?;
-    check(&rt, rt.alloc(), &bytes, Code::Fragmented, 578)
+    check_refused(&rt, rt.alloc(), &bytes, Code::Fragmented, 578)
 }

@@ -2,7 +2,7 @@
 
 use super::first_bytes::FILE as SOUND;
 use super::spellings::{FILE, check};
-use super::{put, read, read_failing, refuses};
+use super::{check_refused, put, read, read_failing};
 use mp_ports::{Code, ReadFail};
 use std::alloc::{AllocError, Global};
 use std::test;
@@ -33,9 +33,9 @@ fn more_than_64_tracks_are_refused(rt: HostRuntime) -> Result<(), test::Fail> {
     for _ in 0..64 {
         boxes.extend_from_slice(b"\0\0\0\x08trak")?;
     }
-    assert!(&rt; refuses(alloc, &moov_of(alloc, &boxes)?, Code::BoxMissing, 124)?);
+    check_refused(&rt, alloc, &moov_of(alloc, &boxes)?, Code::BoxMissing, 124)?;
     boxes.extend_from_slice(b"\0\0\0\x08trak")?;
-    assert!(&rt; refuses(alloc, &moov_of(alloc, &boxes)?, Code::TrackLimit, 0)?);
+    check_refused(&rt, alloc, &moov_of(alloc, &boxes)?, Code::TrackLimit, 0)?;
     Ok(())
 }
 
@@ -44,13 +44,13 @@ fn samples_of_all_tracks_are_counted(rt: HostRuntime) -> Result<(), test::Fail> 
     let alloc = rt.alloc();
     // Alone the most samples are too many for its one chunk.
     let most = track_of(alloc, 2, 8_388_608)?;
-    assert!(&rt; refuses(alloc, &moov_of(alloc, &most)?, Code::ChunkMap, 472)?);
+    check_refused(&rt, alloc, &moov_of(alloc, &most)?, Code::ChunkMap, 472)?;
     let mut both = track_of(alloc, 1, 1)?;
     both.extend_from_slice(&track_of(alloc, 2, 8_388_607)?)?;
-    assert!(&rt; refuses(alloc, &moov_of(alloc, &both)?, Code::ChunkMap, 896)?);
+    check_refused(&rt, alloc, &moov_of(alloc, &both)?, Code::ChunkMap, 896)?;
     let mut more = track_of(alloc, 1, 1)?;
     more.extend_from_slice(&most)?;
-    assert!(&rt; refuses(alloc, &moov_of(alloc, &more)?, Code::SampleLimit, 0)?);
+    check_refused(&rt, alloc, &moov_of(alloc, &more)?, Code::SampleLimit, 0)?;
     Ok(())
 }
 
@@ -59,7 +59,7 @@ fn two_tracks_of_one_number_are_refused(rt: HostRuntime) -> Result<(), test::Fai
     let alloc = rt.alloc();
     let mut both = track_of(alloc, 1, 1)?;
     both.extend_from_slice(&track_of(alloc, 1, 1)?)?;
-    assert!(&rt; refuses(alloc, &moov_of(alloc, &both)?, Code::TrackId, 548)?);
+    check_refused(&rt, alloc, &moov_of(alloc, &both)?, Code::TrackId, 548)?;
     Ok(())
 }
 
@@ -88,7 +88,7 @@ fn changed_spellings_are_refused(rt: HostRuntime) -> Result<(), test::Fail> {
     for (at, new, code, place) in cases {
         let mut bytes = Vec::from_slice(rt.alloc(), &FILE)?;
         put(&mut bytes, at, new);
-        assert!(&rt; refuses(rt.alloc(), &bytes, code, place as u64)?, "at {at}");
+        check_refused(&rt, rt.alloc(), &bytes, code, place)?;
     }
     Ok(())
 }
