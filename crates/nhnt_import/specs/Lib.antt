@@ -1,0 +1,10 @@
+pub mod Number
+pub mod Head
+pub mod Unit
+pub mod Times
+pub mod Fault
+pub mod Entry
+pub mod Placed
+pub mod Pair
+pub mod Kept
+pub mod Window
