@@ -4,26 +4,26 @@ use Rattle.std.specs.List.{flat_map, AllByRecursion}
 use Rattle.std.proofs.lemmas.List.{drop-drop, drop_at, length-append, length-map, map-append, take_at}
 use Rattle.std.proofs.lemmas.List.Concat.{length-flat_map}
 use Rattle.std.proofs.lemmas.List.Sums.{sum-map}
-use Rattle.mp_columns.specs.Stretch.{items_of}
 use Rattle.mp_chunks.specs.Places.{SamplePlace}
 use Rattle.mp_chunks.specs.Written.{AreWritable, IsWritable, PlacedChunk, samples_from, samples_in as places_in, sizes_in}
 use Rattle.mp_timeline.specs.Movie.{SampleRecord}
 use Rattle.mp_movie.specs.Columns.{sizes}
 use Rattle.mp_movie.specs.WellFormed.{HasEntry}
-use Rattle.mp_layout.specs.Order.{Chunk, chunk_bytes, chunks_at, joined, payload, placed}
-use Rattle.mp_layout.proofs.SamplesInOrder.{AreAlike, samples_on}
+use Rattle.mp_interleave.specs.Samples.{SampleChunk, entry_of}
+use Rattle.mp_interleave.specs.Law.{IsAlike, samples_on}
+use Rattle.mp_layout.specs.Order.{chunk_bytes, chunks_at, joined, payload, placed}
 
 -- ---- their samples
 
-one-sizes : (position place : ℕ) (chunk : Chunk) (chunks : List Chunk) → sizes_in (chunks_at position (place + length (chunk_bytes chunk)) chunks) ≡ sizes (samples_on position chunks)
+one-sizes : (position place : ℕ) (chunk : SampleChunk) (chunks : List SampleChunk) → sizes_in (chunks_at position (place + length (chunk_bytes chunk)) chunks) ≡ sizes (samples_on position chunks)
     → (own : Bool) → sizes_in (cond own (placed place chunk ∷ chunks_at position (place + length (chunk_bytes chunk)) chunks) (chunks_at position (place + length (chunk_bytes chunk)) chunks))
-    ≡ sizes (flat_map (λ (c : Chunk). items_of c.samples) (cond own (chunk ∷ filter (λ (c : Chunk). c.track == position) chunks) (filter (λ (c : Chunk). c.track == position) chunks)))
+    ≡ sizes (flat_map (λ (c : SampleChunk). c.samples) (cond own (chunk ∷ filter (λ (c : SampleChunk). c.track == position) chunks) (filter (λ (c : SampleChunk). c.track == position) chunks)))
 one-sizes position place chunk chunks later true =
-    ap (λ (rest : List ℕ). sizes (items_of chunk.samples) ++ rest) later ∙ sym (map-append (λ (sample : SampleRecord). length sample.bytes) (items_of chunk.samples) (samples_on position chunks))
+    ap (λ (rest : List ℕ). sizes (chunk.samples) ++ rest) later ∙ sym (map-append (λ (sample : SampleRecord). length sample.bytes) (chunk.samples) (samples_on position chunks))
 one-sizes position place chunk chunks later false = later
 
 -- as long as the track's
-pub sizes-kept : (position place : ℕ) (chunks : List Chunk) → sizes_in (chunks_at position place chunks) ≡ sizes (samples_on position chunks)
+pub sizes-kept : (position place : ℕ) (chunks : List SampleChunk) → sizes_in (chunks_at position place chunks) ≡ sizes (samples_on position chunks)
 sizes-kept position place [] = refl
 sizes-kept position place (chunk ∷ chunks) = one-sizes position place chunk chunks (sizes-kept position (place + length (chunk_bytes chunk)) chunks) (chunk.track == position)
 
@@ -38,20 +38,20 @@ chunk-kinds : (place entry : ℕ) (samples : List SampleRecord) → AllByRecursi
 chunk-kinds place entry [] alike = refl
 chunk-kinds place entry (sample ∷ samples) alike = rw (alike.0, chunk-kinds (place + length sample.bytes) entry samples alike.1) refl
 
-one-kinds : (position place : ℕ) (chunk : Chunk) (chunks : List Chunk) → AllByRecursion (λ sample. sample.entry ≡ chunk.samples.first.entry) (items_of chunk.samples)
+one-kinds : (position place : ℕ) (chunk : SampleChunk) (chunks : List SampleChunk) → AllByRecursion (λ sample. sample.entry ≡ entry_of chunk) (chunk.samples)
     → kinds_in (chunks_at position (place + length (chunk_bytes chunk)) chunks) ≡ entries_of (samples_on position chunks)
     → (own : Bool) → kinds_in (cond own (placed place chunk ∷ chunks_at position (place + length (chunk_bytes chunk)) chunks) (chunks_at position (place + length (chunk_bytes chunk)) chunks))
-    ≡ entries_of (flat_map (λ (c : Chunk). items_of c.samples) (cond own (chunk ∷ filter (λ (c : Chunk). c.track == position) chunks) (filter (λ (c : Chunk). c.track == position) chunks)))
+    ≡ entries_of (flat_map (λ (c : SampleChunk). c.samples) (cond own (chunk ∷ filter (λ (c : SampleChunk). c.track == position) chunks) (filter (λ (c : SampleChunk). c.track == position) chunks)))
 one-kinds position place chunk chunks alike later true =
-    map-append (λ (p : SamplePlace). p.kind) (samples_from place chunk.samples.first.entry (sizes (items_of chunk.samples))) (places_in (chunks_at position (place + length (chunk_bytes chunk)) chunks))
-    ∙ (ap (λ (first : List ℕ). first ++ kinds_in (chunks_at position (place + length (chunk_bytes chunk)) chunks)) (chunk-kinds place chunk.samples.first.entry (items_of chunk.samples) alike)
-    ∙ (ap (λ (rest : List ℕ). entries_of (items_of chunk.samples) ++ rest) later ∙ sym (map-append (λ (sample : SampleRecord). sample.entry) (items_of chunk.samples) (samples_on position chunks))))
+    map-append (λ (p : SamplePlace). p.kind) (samples_from place (entry_of chunk) (sizes (chunk.samples))) (places_in (chunks_at position (place + length (chunk_bytes chunk)) chunks))
+    ∙ (ap (λ (first : List ℕ). first ++ kinds_in (chunks_at position (place + length (chunk_bytes chunk)) chunks)) (chunk-kinds place (entry_of chunk) (chunk.samples) alike)
+    ∙ (ap (λ (rest : List ℕ). entries_of (chunk.samples) ++ rest) later ∙ sym (map-append (λ (sample : SampleRecord). sample.entry) (chunk.samples) (samples_on position chunks))))
 one-kinds position place chunk chunks alike later false = later
 
 -- of the entries of the track's
-pub kinds-kept : (position place : ℕ) (chunks : List Chunk) → AreAlike chunks → kinds_in (chunks_at position place chunks) ≡ entries_of (samples_on position chunks)
+pub kinds-kept : (position place : ℕ) (chunks : List SampleChunk) → AllByRecursion IsAlike chunks → kinds_in (chunks_at position place chunks) ≡ entries_of (samples_on position chunks)
 kinds-kept position place [] alike = refl
-kinds-kept position place (chunk ∷ chunks) alike = one-kinds position place chunk chunks alike.0 (kinds-kept position (place + length (chunk_bytes chunk)) chunks alike.1) (chunk.track == position)
+kinds-kept position place (chunk ∷ chunks) alike = one-kinds position place chunk chunks alike.0.alike (kinds-kept position (place + length (chunk_bytes chunk)) chunks alike.1) (chunk.track == position)
 
 -- ---- their bytes
 
@@ -72,28 +72,28 @@ chunk-read file place entry (sample ∷ samples) rest e =
     let here : drop place file ≡ sample.bytes ++ (joined samples ++ rest) = e ∙ append_assoc sample.bytes (joined samples) rest in
     rw (here, take_at sample.bytes (joined samples ++ rest) (length sample.bytes) refl, chunk-read file (place + length sample.bytes) entry samples rest (behind file sample.bytes _ place here)) refl
 
-one-read : (file : List ℕ) (position place : ℕ) (chunk : Chunk) (chunks : List Chunk) → map (bytes_at file) (samples_from place chunk.samples.first.entry (sizes (items_of chunk.samples))) ≡ bytes_of (items_of chunk.samples)
+one-read : (file : List ℕ) (position place : ℕ) (chunk : SampleChunk) (chunks : List SampleChunk) → map (bytes_at file) (samples_from place (entry_of chunk) (sizes (chunk.samples))) ≡ bytes_of (chunk.samples)
     → map (bytes_at file) (places_in (chunks_at position (place + length (chunk_bytes chunk)) chunks)) ≡ bytes_of (samples_on position chunks)
     → (own : Bool) → map (bytes_at file) (places_in (cond own (placed place chunk ∷ chunks_at position (place + length (chunk_bytes chunk)) chunks) (chunks_at position (place + length (chunk_bytes chunk)) chunks)))
-    ≡ bytes_of (flat_map (λ (c : Chunk). items_of c.samples) (cond own (chunk ∷ filter (λ (c : Chunk). c.track == position) chunks) (filter (λ (c : Chunk). c.track == position) chunks)))
+    ≡ bytes_of (flat_map (λ (c : SampleChunk). c.samples) (cond own (chunk ∷ filter (λ (c : SampleChunk). c.track == position) chunks) (filter (λ (c : SampleChunk). c.track == position) chunks)))
 one-read file position place chunk chunks here later true =
-    map-append (bytes_at file) (samples_from place chunk.samples.first.entry (sizes (items_of chunk.samples))) (places_in (chunks_at position (place + length (chunk_bytes chunk)) chunks))
+    map-append (bytes_at file) (samples_from place (entry_of chunk) (sizes (chunk.samples))) (places_in (chunks_at position (place + length (chunk_bytes chunk)) chunks))
     ∙ (ap (λ (first : List (List ℕ)). first ++ map (bytes_at file) (places_in (chunks_at position (place + length (chunk_bytes chunk)) chunks))) here
-    ∙ (ap (λ (rest : List (List ℕ)). bytes_of (items_of chunk.samples) ++ rest) later ∙ sym (map-append (λ (sample : SampleRecord). sample.bytes) (items_of chunk.samples) (samples_on position chunks))))
+    ∙ (ap (λ (rest : List (List ℕ)). bytes_of (chunk.samples) ++ rest) later ∙ sym (map-append (λ (sample : SampleRecord). sample.bytes) (chunk.samples) (samples_on position chunks))))
 one-read file position place chunk chunks here later false = later
 
-payload-more : (chunk : Chunk) (chunks : List Chunk) → payload (chunk ∷ chunks) ≡ chunk_bytes chunk ++ payload chunks
+pub payload-more : (chunk : SampleChunk) (chunks : List SampleChunk) → payload (chunk ∷ chunks) ≡ chunk_bytes chunk ++ payload chunks
 unfolding payload
 payload-more chunk chunks = refl
 
 -- where the payload stands, the bytes of a track's samples are at the places of its chunks
-pub bytes-read : (file : List ℕ) (position place : ℕ) (chunks : List Chunk) (rest : List ℕ) → drop place file ≡ payload chunks ++ rest
+pub bytes-read : (file : List ℕ) (position place : ℕ) (chunks : List SampleChunk) (rest : List ℕ) → drop place file ≡ payload chunks ++ rest
     → map (bytes_at file) (places_in (chunks_at position place chunks)) ≡ bytes_of (samples_on position chunks)
 bytes-read file position place [] rest e = refl
 bytes-read file position place (chunk ∷ chunks) rest e =
     let here : drop place file ≡ chunk_bytes chunk ++ (payload chunks ++ rest) =
     e ∙ (ap (λ (text : List ℕ). text ++ rest) (payload-more chunk chunks) ∙ append_assoc (chunk_bytes chunk) (payload chunks) rest) in
-    one-read file position place chunk chunks (chunk-read file place chunk.samples.first.entry (items_of chunk.samples) (payload chunks ++ rest) here)
+    one-read file position place chunk chunks (chunk-read file place (entry_of chunk) (chunk.samples) (payload chunks ++ rest) here)
     (bytes-read file position (place + length (chunk_bytes chunk)) chunks rest (behind file (chunk_bytes chunk) _ place here)) (chunk.track == position)
 
 -- ---- they can be written
@@ -115,48 +115,60 @@ sound-sizes : (entries : ℕ) (samples : List SampleRecord) → AllByRecursion (
 sound-sizes entries [] all = tt
 sound-sizes entries (sample ∷ samples) all = (all.0.size, sound-sizes entries samples all.1)
 
-length-joined : (samples : List SampleRecord) → sum (sizes samples) ≡ length (joined samples)
+pub length-joined : (samples : List SampleRecord) → sum (sizes samples) ≡ length (joined samples)
 length-joined samples = sum-map (λ (sample : SampleRecord). length sample.bytes) samples ∙ sym (length-flat_map (λ (sample : SampleRecord). sample.bytes) samples)
 
 -- its place fits the field that it is written in
 abbrev pub FitsField : Bool → PlacedChunk → Type 0
 FitsField wide chunk = chunk.place < cond wide (2 ^ 64) (2 ^ 32)
 
-one-writable : (wide : Bool) (entries end place : ℕ) (chunk : Chunk) → AllByRecursion (IsSound entries) (items_of chunk.samples) → FitsField wide (placed place chunk) → place + length (chunk_bytes chunk) ≤ end
+-- the entry of a chunk is that of a sample
+record IsKnown (entries entry : ℕ) : Type 0 where
+  pub some : 1 ≤ entry
+  pub known : entry ≤ entries
+
+entry-known : (entries : ℕ) (chunk : SampleChunk) → IsAlike chunk → AllByRecursion (IsSound entries) chunk.samples → IsKnown entries (entry_of chunk)
+entry-known entries chunk alike sound = by chunk.track chunk.samples alike.some sound
+  where
+    by : (track : ℕ) (samples : List SampleRecord) → 1 ≤ length samples → AllByRecursion (IsSound entries) samples → IsKnown entries (entry_of (record { track = track; samples = samples }))
+    by track [] some sound = absurd (omega (arith, some))
+    by track (sample ∷ samples) some sound = record { some = omega (arith, sound.0.entry.some); known = sound.0.entry.known }
+
+one-writable : (wide : Bool) (entries end place : ℕ) (chunk : SampleChunk) → IsAlike chunk → AllByRecursion (IsSound entries) (chunk.samples) → FitsField wide (placed place chunk) → place + length (chunk_bytes chunk) ≤ end
     → IsWritable wide entries end (placed place chunk)
-one-writable wide entries end place chunk sound fits le = record {
-  some = omega arith;
-  numbered = omega (arith, sound.0.entry.some);
-  known = sound.0.entry.known;
+one-writable wide entries end place chunk alike sound fits le = record {
+  some = omega (arith, alike.some, length-map chunk.samples (λ (sample : SampleRecord). length sample.bytes));
+  numbered = omega (arith, (entry-known entries chunk alike sound).some);
+  known = (entry-known entries chunk alike sound).known;
   placed = fits;
-  sizes = sound-sizes entries (items_of chunk.samples) sound;
-  inside = omega (arith, le, length-joined (items_of chunk.samples));
+  sizes = sound-sizes entries (chunk.samples) sound;
+  inside = omega (arith, le, length-joined (chunk.samples));
 }
 
-each-writable : (wide : Bool) (entries end position place : ℕ) (chunks : List Chunk) → AllByRecursion (IsSound entries) (samples_on position chunks) → AllByRecursion (FitsField wide) (chunks_at position place chunks)
+each-writable : (wide : Bool) (entries end position place : ℕ) (chunks : List SampleChunk) → AllByRecursion IsAlike chunks → AllByRecursion (IsSound entries) (samples_on position chunks) → AllByRecursion (FitsField wide) (chunks_at position place chunks)
     → place + length (payload chunks) ≤ end → AllByRecursion (IsWritable wide entries end) (chunks_at position place chunks)
-each-writable wide entries end position place [] sound fits le = tt
-each-writable wide entries end position place (chunk ∷ chunks) sound fits le =
-    by (chunk.track == position) sound fits (each-writable wide entries end position (place + length (chunk_bytes chunk)) chunks)
+each-writable wide entries end position place [] alike sound fits le = tt
+each-writable wide entries end position place (chunk ∷ chunks) alike sound fits le =
+    by (chunk.track == position) sound fits (each-writable wide entries end position (place + length (chunk_bytes chunk)) chunks alike.1)
   where
     long : length (payload (chunk ∷ chunks)) ≡ length (chunk_bytes chunk) + length (payload chunks)
     long = ap length (payload-more chunk chunks) ∙ length-append (chunk_bytes chunk) (payload chunks)
 
-    by : (own : Bool) → AllByRecursion (IsSound entries) (flat_map (λ (c : Chunk). items_of c.samples) (cond own (chunk ∷ filter (λ (c : Chunk). c.track == position) chunks) (filter (λ (c : Chunk). c.track == position) chunks)))
+    by : (own : Bool) → AllByRecursion (IsSound entries) (flat_map (λ (c : SampleChunk). c.samples) (cond own (chunk ∷ filter (λ (c : SampleChunk). c.track == position) chunks) (filter (λ (c : SampleChunk). c.track == position) chunks)))
         → AllByRecursion (FitsField wide) (cond own (placed place chunk ∷ chunks_at position (place + length (chunk_bytes chunk)) chunks) (chunks_at position (place + length (chunk_bytes chunk)) chunks))
         → (AllByRecursion (IsSound entries) (samples_on position chunks) → AllByRecursion (FitsField wide) (chunks_at position (place + length (chunk_bytes chunk)) chunks) → place + length (chunk_bytes chunk) + length (payload chunks) ≤ end
         → AllByRecursion (IsWritable wide entries end) (chunks_at position (place + length (chunk_bytes chunk)) chunks))
         → AllByRecursion (IsWritable wide entries end) (cond own (placed place chunk ∷ chunks_at position (place + length (chunk_bytes chunk)) chunks) (chunks_at position (place + length (chunk_bytes chunk)) chunks))
     by true sound fits later = (
-      one-writable wide entries end place chunk (sound-first entries (items_of chunk.samples) (samples_on position chunks) sound) fits.0 (omega (arith, le, long)),
-      later (sound-rest entries (items_of chunk.samples) (samples_on position chunks) sound) fits.1 (omega (arith, le, long)),
+      one-writable wide entries end place chunk alike.0 (sound-first entries (chunk.samples) (samples_on position chunks) sound) fits.0 (omega (arith, le, long)),
+      later (sound-rest entries (chunk.samples) (samples_on position chunks) sound) fits.1 (omega (arith, le, long)),
     )
     by false sound fits later = later sound fits (omega (arith, le, long))
 
-pub all-writable : (wide : Bool) (entries end position place : ℕ) (chunks : List Chunk) → AllByRecursion (IsSound entries) (samples_on position chunks) → AllByRecursion (FitsField wide) (chunks_at position place chunks)
+pub all-writable : (wide : Bool) (entries end position place : ℕ) (chunks : List SampleChunk) → AllByRecursion IsAlike chunks → AllByRecursion (IsSound entries) (samples_on position chunks) → AllByRecursion (FitsField wide) (chunks_at position place chunks)
     → place + length (payload chunks) ≤ end → length (samples_on position chunks) < 2 ^ 32 → entries < 2 ^ 32 → AreWritable wide entries end (chunks_at position place chunks)
-all-writable wide entries end position place chunks sound fits le few known = record {
-  each = each-writable wide entries end position place chunks sound fits le;
+all-writable wide entries end position place chunks alike sound fits le few known = record {
+  each = each-writable wide entries end position place chunks alike sound fits le;
   few_samples = omega (arith, few, ap length (sizes-kept position place chunks), length-map (samples_on position chunks) (λ (sample : SampleRecord). length sample.bytes));
   few_entries = known;
 }
@@ -164,7 +176,7 @@ all-writable wide entries end position place chunks sound fits le few known = re
 -- ---- places of 64 bits
 
 -- behind a payload that ends there no place lies
-pub all-wide : (position place : ℕ) (chunks : List Chunk) → place + length (payload chunks) < 2 ^ 64 → AllByRecursion (FitsField true) (chunks_at position place chunks)
+pub all-wide : (position place : ℕ) (chunks : List SampleChunk) → place + length (payload chunks) < 2 ^ 64 → AllByRecursion (FitsField true) (chunks_at position place chunks)
 all-wide position place [] lt = tt
 all-wide position place (chunk ∷ chunks) lt = by (chunk.track == position) (all-wide position (place + length (chunk_bytes chunk)) chunks (omega (arith, lt, long)))
   where

@@ -8,7 +8,9 @@ use Rattle.mp_chunks.specs.Written.{PlacesAreRead, PlacesChangeNoLength}
 use Rattle.mp_timeline.specs.Movie.{TrackRecord, MovieRecord}
 use Rattle.mp_movie.specs.Limits.{Fits, FitsTrack}
 use Rattle.mp_movie.specs.WellFormed.{IsWellFormed, IsWellFormedTrack}
-use Rattle.mp_layout.specs.Order.{chunks_of, payload}
+use Rattle.mp_interleave.specs.Samples.{chunks_of}
+use Rattle.mp_interleave.specs.Law.{SamplesStandInChunks}
+use Rattle.mp_layout.specs.Order.{payload}
 use Rattle.mp_layout.specs.Tables.{Placing}
 use Rattle.mp_layout.specs.Moov.{moov, placing_at}
 use Rattle.mp_layout.specs.File.{HasShortMoov, file_bytes, mdat_head, payload_place, wide_tracks}
@@ -54,13 +56,13 @@ payload-short moov bytes short =
     let head : List ℕ = mdat_head (length bytes) in
     omega (arith, short, length-append ((box_bytes ftyp ++ moov) ++ head) bytes, length-append (box_bytes ftyp ++ moov) head, length-append (box_bytes ftyp) moov, ftyp-len)
 
-pub file-presents : Laws → PlacesAreRead → PlacesChangeNoLength → (movie : MovieRecord) (millis : ℕ) → IsWellFormed movie → Fits movie → HasShortMoov movie millis → IsFileRead (file_bytes movie millis) movie
+pub file-presents : Laws → SamplesStandInChunks → PlacesAreRead → PlacesChangeNoLength → (movie : MovieRecord) (millis : ℕ) → IsWellFormed movie → Fits movie → HasShortMoov movie millis → IsFileRead (file_bytes movie millis) movie
 unfolding file_bytes file_with
-file-presents laws places lengths movie millis formed fits short =
+file-presents laws order places lengths movie millis formed fits short =
     let chunks = chunks_of millis movie in
     let wide = wide_tracks movie chunks in
     let place = payload_place movie chunks wide in
     let found = found-samples movie formed fits in
-    let file : length (file_bytes movie millis) < 2 ^ 64 = file-short lengths movie millis found (omega (arith, short, laws.boxes.lengths.one (moov movie chunks wide place))) in
-    let placed = all-placed (file_bytes movie millis) (placing_in movie millis) movie.tracks [] movie.tracks 0 refl refl (λ at d lt. samples-found places lengths movie millis at d found lt file) in
+    let file : length (file_bytes movie millis) < 2 ^ 64 = file-short order lengths movie millis found (omega (arith, short, laws.boxes.lengths.one (moov movie chunks wide place))) in
+    let placed = all-placed (file_bytes movie millis) (placing_in movie millis) movie.tracks [] movie.tracks 0 refl refl (λ at d lt. samples-found order places lengths movie millis at d found lt file) in
     file-read laws movie (placing_at chunks wide place) (payload chunks) (omega (arith, short)) (payload-short (box_bytes (moov movie chunks wide place)) (payload chunks) file) formed fits placed

@@ -24,11 +24,13 @@ use Rattle.mp_movie.specs.Edits.{edits_of, edits_fault}
 use Rattle.mp_movie.specs.Tracks.{track_of, tables_fault, track_fault, tracks_fault}
 use Rattle.mp_movie.specs.Present.{top_boxes, one_moov, movie_fault, first_fault, movie_of, present}
 use Rattle.mp_layout.specs.Example.{example_file, example_movie}
-use Rattle.mp_layout.specs.Order.{chunks_of, payload}
+use Rattle.mp_interleave.specs.Order.{chunk_order}
+use Rattle.mp_interleave.specs.Samples.{chunks_of, keys_of}
+use Rattle.mp_layout.specs.Order.{payload}
 use Rattle.mp_layout.specs.File.{mdat_head, payload_place, wide_tracks, file_bytes}
 
 pub example_is_written : file_bytes example_movie 1000 ≡ example_file
-unfolding box_bytes boxes_bytes runs_body stss_body runs_of stsc_body stsz_body offsets_body chunks_of payload mdat_head payload_place wide_tracks file_bytes example_movie example_file
+unfolding box_bytes boxes_bytes runs_body stss_body runs_of stsc_body stsz_body offsets_body chunk_order keys_of chunks_of payload mdat_head payload_place wide_tracks file_bytes example_movie example_file
 example_is_written = refl
 
 pub example_is_read : present example_file ≡ Some example_movie

@@ -1,5 +1,5 @@
--- How long the front of a file is: it does not depend on the places that it states, and with more tracks of places of 64 bits it is no shorter.
-use Rattle.std.proofs.Common.{◌≡◌, ℕ, ◌+◌, ◌*◌, ◌≤◌, Bool, true, false, cond, List, [], ◌∷◌, ◌++◌, length, map, get_or, codes, refl, sym, ap, ◌∙◌, arith, ◌==◌}
+-- How long the front of a file is: it does not depend on the places that it states, and each place of 64 bits makes it 4 bytes longer.
+use Rattle.std.proofs.Common.{if◌then◌else◌, ◌≡◌, ℕ, ◌+◌, ◌*◌, ◌≤◌, Bool, true, false, cond, List, [], ◌∷◌, ◌++◌, length, map, get_or, codes, refl, sym, ap, ◌∙◌, arith, ◌==◌}
 use Rattle.std.proofs.lemmas.List.{length-append, length-map}
 use Rattle.mp_boxes.specs.Field.{Part, box_bytes, boxes_bytes, optional}
 use Rattle.mp_boxes.specs.FullBox.{first_row}
@@ -15,39 +15,54 @@ use Rattle.mp_chunks.specs.Chunks.{offset_len}
 use Rattle.mp_chunks.specs.Written.{PlacesChangeNoLength, chunk_offsets, head_of, offsets_body, stsc, stsc_body, stsz, unplaced}
 use Rattle.mp_timeline.specs.Movie.{TrackRecord, MovieRecord}
 use Rattle.mp_movie.specs.Columns.{composition_offsets, durations, sizes, sync_marks}
-use Rattle.mp_layout.specs.Order.{Chunk, chunk_bytes, chunks_at, payload, placed}
+use Rattle.mp_interleave.specs.Samples.{SampleChunk}
+use Rattle.mp_layout.specs.Order.{chunk_bytes, chunks_at, payload, placed}
 use Rattle.mp_entries.specs.Description.{stsd}
 use Rattle.mp_layout.specs.Tables.{Placing, stbl}
 use Rattle.mp_edits.specs.EditBox.{edts}
 use Rattle.mp_layout.specs.Moov.{dinf, mdia, minf, moov, placing_at, trak, traks}
-use Rattle.mp_layout.specs.File.{front_at, mdat_head, payload_place}
+use Rattle.mp_layout.specs.File.{Within, front_at, mdat_head, payload_place}
 
--- ---- boxes that are no longer than others
+-- ---- boxes that are longer than others
 
-box-longer : (one other : Part) → length one.kind ≡ length other.kind → length one.body ≤ length other.body → length (box_bytes one) ≤ length (box_bytes other)
+-- the second box is so much longer than the first
+abbrev Adds : ℕ → Part → Part → Type 0
+Adds more one other = length (box_bytes other) ≡ length (box_bytes one) + more
+
+-- and so are the second boxes together
+abbrev AddAll : ℕ → List Part → List Part → Type 0
+AddAll more xs ys = length (boxes_bytes ys) ≡ length (boxes_bytes xs) + more
+
+box-adds : (more : ℕ) (one other : Part) → length one.kind ≡ length other.kind → length other.body ≡ length one.body + more → Adds more one other
 unfolding box_bytes
-box-longer one other kinds le = omega (arith, kinds, le, length-append one.kind one.body, length-append other.kind other.body)
+box-adds more one other kinds bodies = omega (arith, kinds, bodies, length-append one.kind one.body, length-append other.kind other.body)
 
-both-longer : (one other : Part) (xs ys : List Part) → length (box_bytes one) ≤ length (box_bytes other) → length (boxes_bytes xs) ≤ length (boxes_bytes ys) → length (boxes_bytes (one ∷ xs)) ≤ length (boxes_bytes (other ∷ ys))
+both-add : (m n : ℕ) (one other : Part) (xs ys : List Part) → Adds m one other → AddAll n xs ys → AddAll (m + n) (one ∷ xs) (other ∷ ys)
 unfolding boxes_bytes
-both-longer one other xs ys le rest = omega (arith, le, rest, length-append (box_bytes one) (boxes_bytes xs), length-append (box_bytes other) (boxes_bytes ys))
+both-add m n one other xs ys first rest = omega (arith, first, rest, length-append (box_bytes one) (boxes_bytes xs), length-append (box_bytes other) (boxes_bytes ys))
 
-last-longer : (one other : Part) → length (box_bytes one) ≤ length (box_bytes other) → length (boxes_bytes (one ∷ [])) ≤ length (boxes_bytes (other ∷ []))
-last-longer one other le = both-longer one other [] [] le (omega arith)
+same-front : (more : ℕ) (one other : Part) (xs ys : List Part) → Adds 0 one other → AddAll more xs ys → AddAll more (one ∷ xs) (other ∷ ys)
+unfolding boxes_bytes
+same-front more one other xs ys first rest = omega (arith, first, rest, length-append (box_bytes one) (boxes_bytes xs), length-append (box_bytes other) (boxes_bytes ys))
 
-behind : (part : Part) (xs ys : List Part) → length (boxes_bytes xs) ≤ length (boxes_bytes ys) → length (boxes_bytes (part ∷ xs)) ≤ length (boxes_bytes (part ∷ ys))
-behind part xs ys le = both-longer part part xs ys (omega arith) le
+last-adds : (more : ℕ) (one other : Part) → Adds more one other → AddAll more (one ∷ []) (other ∷ [])
+unfolding boxes_bytes
+last-adds more one other adds = omega (arith, adds, length-append (box_bytes one) (boxes_bytes []), length-append (box_bytes other) (boxes_bytes []))
 
-behind-all : (parts xs ys : List Part) → length (boxes_bytes xs) ≤ length (boxes_bytes ys) → length (boxes_bytes (parts ++ xs)) ≤ length (boxes_bytes (parts ++ ys))
-behind-all [] xs ys le = le
-behind-all (part ∷ parts) xs ys le = behind part (parts ++ xs) (parts ++ ys) (behind-all parts xs ys le)
+behind : (more : ℕ) (part : Part) (xs ys : List Part) → AddAll more xs ys → AddAll more (part ∷ xs) (part ∷ ys)
+unfolding boxes_bytes
+behind more part xs ys adds = omega (arith, adds, length-append (box_bytes part) (boxes_bytes xs), length-append (box_bytes part) (boxes_bytes ys))
+
+behind-all : (more : ℕ) (parts xs ys : List Part) → AddAll more xs ys → AddAll more (parts ++ xs) (parts ++ ys)
+behind-all more [] xs ys adds = adds
+behind-all more (part ∷ parts) xs ys adds = behind more part (parts ++ xs) (parts ++ ys) (behind-all more parts xs ys adds)
 
 -- ---- the tables of chunks
 
--- the tables of one placing are no longer than those of another
-record AreNoLonger (one other : Placing) : Type 0 where
+-- the tables of the second placing are so much longer than those of the first
+record TablesAdd (more : ℕ) (one other : Placing) : Type 0 where
   pub stsc : stsc_body (map head_of one.chunks) ≡ stsc_body (map head_of other.chunks)
-  pub offsets : length (offsets_body one.wide (map head_of one.chunks)) ≤ length (offsets_body other.wide (map head_of other.chunks))
+  pub offsets : length (offsets_body other.wide (map head_of other.chunks)) ≡ length (offsets_body one.wide (map head_of one.chunks)) + more
 
 same-kind : (one other : Bool) → length (cond one (codes "co64") (codes "stco")) ≡ length (cond other (codes "co64") (codes "stco"))
 same-kind true true = refl
@@ -55,31 +70,37 @@ same-kind true false = refl
 same-kind false true = refl
 same-kind false false = refl
 
-stbl-longer : (track : TrackRecord) (one other : Placing) → AreNoLonger one other → length (box_bytes (stbl track one)) ≤ length (box_bytes (stbl track other))
-stbl-longer track one other longer =
-    let runs = box-longer (stsc (map head_of one.chunks)) (stsc (map head_of other.chunks)) refl (omega (arith, ap length longer.stsc)) in
-    let places = box-longer (chunk_offsets one.wide (map head_of one.chunks)) (chunk_offsets other.wide (map head_of other.chunks)) (same-kind one.wide other.wide) longer.offsets in
-    let tables = both-longer _ _ _ _ runs (behind (stsz (sizes track.samples)) _ _ (last-longer _ _ places)) in
-    let times = behind-all (optional (ctts (composition_offsets track.samples)) ++ optional (stss (sync_marks track.samples))) _ _ tables in
-    box-longer (stbl track one) (stbl track other) refl (behind (stsd track.entries) _ _ (behind (stts (durations track.samples)) _ _ times))
+stbl-adds : (more : ℕ) (track : TrackRecord) (one other : Placing) → TablesAdd more one other → Adds more (stbl track one) (stbl track other)
+stbl-adds more track one other adds =
+    let runs = box-adds 0 (stsc (map head_of one.chunks)) (stsc (map head_of other.chunks)) refl (omega (arith, ap length adds.stsc)) in
+    let places = box-adds more (chunk_offsets one.wide (map head_of one.chunks)) (chunk_offsets other.wide (map head_of other.chunks)) (same-kind one.wide other.wide) adds.offsets in
+    let tables = same-front more _ _ _ _ runs (behind more (stsz (sizes track.samples)) _ _ (last-adds more _ _ places)) in
+    let times = behind-all more (optional (ctts (composition_offsets track.samples)) ++ optional (stss (sync_marks track.samples))) _ _ tables in
+    box-adds more (stbl track one) (stbl track other) refl (behind more (stsd track.entries) _ _ (behind more (stts (durations track.samples)) _ _ times))
 
-trak-longer : (scale : ℕ) (track : TrackRecord) (one other : Placing) → AreNoLonger one other → length (box_bytes (trak scale track one)) ≤ length (box_bytes (trak scale track other))
-trak-longer scale track one other longer =
-    let information = box-longer (minf track one) (minf track other) refl (behind (media_header track.head.handler) _ _ (behind dinf _ _ (last-longer _ _ (stbl-longer track one other longer)))) in
-    let media = box-longer (mdia track one) (mdia track other) refl (behind (mdhd (media_fields track)) _ _ (behind (hdlr track.head.handler track.head.name) _ _ (last-longer _ _ information))) in
-    let parts = behind (tkhd (track_fields scale track)) _ _ (behind-all (optional (edts track.edits)) _ _ (last-longer _ _ media)) in
-    box-longer (trak scale track one) (trak scale track other) refl
+trak-adds : (more scale : ℕ) (track : TrackRecord) (one other : Placing) → TablesAdd more one other → Adds more (trak scale track one) (trak scale track other)
+trak-adds more scale track one other adds =
+    let information = box-adds more (minf track one) (minf track other) refl (behind more (media_header track.head.handler) _ _ (behind more dinf _ _ (last-adds more _ _ (stbl-adds more track one other adds)))) in
+    let media = box-adds more (mdia track one) (mdia track other) refl (behind more (mdhd (media_fields track)) _ _ (behind more (hdlr track.head.handler track.head.name) _ _ (last-adds more _ _ information))) in
+    let parts = behind more (tkhd (track_fields scale track)) _ _ (behind-all more (optional (edts track.edits)) _ _ (last-adds more _ _ media)) in
+    box-adds more (trak scale track one) (trak scale track other) refl
     (omega (arith, parts, length-append (boxes_bytes (tkhd (track_fields scale track) ∷ optional (edts track.edits) ++ mdia track one ∷ [])) track.head.udta, length-append (boxes_bytes (tkhd (track_fields scale track) ∷ optional (edts track.edits) ++ mdia track other ∷ [])) track.head.udta))
 
-traks-longer : (scale : ℕ) (one other : ℕ → Placing) (position : ℕ) (tracks : List TrackRecord) → ((k : ℕ) → AreNoLonger (one k) (other k))
-    → length (boxes_bytes (traks scale one position tracks)) ≤ length (boxes_bytes (traks scale other position tracks))
-traks-longer scale one other position [] longer = omega arith
-traks-longer scale one other position (track ∷ tracks) longer =
-    both-longer _ _ _ _ (trak-longer scale track (one position) (other position) (longer position)) (traks-longer scale one other (position + 1) tracks longer)
+-- what so many tracks from a position on add
+abbrev pub all_more : (ℕ → ℕ) → ℕ → List TrackRecord → ℕ
+all_more more position [] = 0
+all_more more position (track ∷ tracks) = more position + all_more more (position + 1) tracks
+
+traks-add : (more : ℕ → ℕ) (scale : ℕ) (one other : ℕ → Placing) (position : ℕ) (tracks : List TrackRecord) → ((k : ℕ) → TablesAdd (more k) (one k) (other k))
+    → AddAll (all_more more position tracks) (traks scale one position tracks) (traks scale other position tracks)
+traks-add more scale one other position [] adds = omega arith
+traks-add more scale one other position (track ∷ tracks) adds =
+    both-add (more position) (all_more more (position + 1) tracks) _ _ _ _ (trak-adds (more position) scale track (one position) (other position) (adds position))
+    (traks-add more scale one other (position + 1) tracks adds)
 
 -- ---- the chunks of a track at other places
 
-same-heads : (position a b : ℕ) (chunks : List Chunk) → map unplaced (map head_of (chunks_at position a chunks)) ≡ map unplaced (map head_of (chunks_at position b chunks))
+pub same-heads : (position a b : ℕ) (chunks : List SampleChunk) → map unplaced (map head_of (chunks_at position a chunks)) ≡ map unplaced (map head_of (chunks_at position b chunks))
 same-heads position a b [] = refl
 same-heads position a b (chunk ∷ chunks) = by (chunk.track == position) (same-heads position (a + length (chunk_bytes chunk)) (b + length (chunk_bytes chunk)) chunks)
   where
@@ -89,50 +110,48 @@ same-heads position a b (chunk ∷ chunks) = by (chunk.track == position) (same-
     by true same = rw same refl
     by false same = same
 
-no-fewer : (one other : Bool) (n m : ℕ) → n ≡ m → (one ≡ true → other ≡ true) → first_row + offset_len one * n ≤ first_row + offset_len other * m
-no-fewer true true n m same grows = omega (arith, same)
-no-fewer true false n m same grows = absurd (no_true (grows refl))
-  where
-    no_true : false ≡ true → ⊥
-    no_true e = cc
-no-fewer false true n m same grows = omega (arith, same)
-no-fewer false false n m same grows = omega (arith, same)
+-- how many bytes the places of the track at a position take more, where it is in the set
+abbrev pub wide_more : List SampleChunk → List Bool → ℕ → ℕ
+wide_more chunks wide position = if get_or wide position false then 4 * length (chunks_at position 0 chunks) else 0
 
-placing-longer : PlacesChangeNoLength → (chunks : List Chunk) (wide others : List Bool) (a b position : ℕ) → (get_or wide position false ≡ true → get_or others position false ≡ true)
-    → AreNoLonger (placing_at chunks wide a position) (placing_at chunks others b position)
-placing-longer law chunks wide others a b position grows =
+offsets-add : (one : Bool) (n m : ℕ) → n ≡ m → first_row + offset_len one * m ≡ first_row + offset_len false * n + (if one then 4 * n else 0)
+offsets-add true n m same = omega (arith, same)
+offsets-add false n m same = omega (arith, same)
+
+placing-adds : PlacesChangeNoLength → (chunks : List SampleChunk) (wide : List Bool) (a b position : ℕ) → TablesAdd (wide_more chunks wide position) (placing_at chunks [] a position) (placing_at chunks wide b position)
+placing-adds law chunks wide a b position =
     let here = map head_of (chunks_at position a chunks) in
     let there = map head_of (chunks_at position b chunks) in
+    let base = chunks_at position 0 chunks in
     let same = same-heads position a b chunks in
-    let many : length here ≡ length there = sym (length-map here unplaced) ∙ (ap length same ∙ length-map there unplaced) in
+    let from = same-heads position a 0 chunks in
+    let many : length here ≡ length base = sym (length-map here unplaced) ∙ (ap length from ∙ (length-map (map head_of base) unplaced ∙ length-map base head_of)) in
+    let as_many : length here ≡ length there = sym (length-map here unplaced) ∙ (ap length same ∙ length-map there unplaced) in
     record {
       stsc = sym (law.stsc here) ∙ (ap stsc_body same ∙ law.stsc there);
-      offsets = rw (law.offsets (get_or wide position false) here, law.offsets (get_or others position false) there) (no-fewer (get_or wide position false) (get_or others position false) (length here) (length there) many grows);
+      offsets = rw (law.offsets (get_or wide position false) there, law.offsets false here, ← many) (offsets-add (get_or wide position false) (length here) (length there) as_many);
     }
 
 -- ---- the front
 
--- each track of the first set is in the second
-abbrev pub Within : List Bool → List Bool → Type 0
-Within wide others = (position : ℕ) → get_or wide position false ≡ true → get_or others position false ≡ true
+pub moov-adds : PlacesChangeNoLength → (movie : MovieRecord) (chunks : List SampleChunk) (wide : List Bool) (a b : ℕ)
+    → length (box_bytes (moov movie chunks wide b)) ≡ length (box_bytes (moov movie chunks [] a)) + all_more (wide_more chunks wide) 0 movie.tracks
+moov-adds law movie chunks wide a b =
+    let more = all_more (wide_more chunks wide) 0 movie.tracks in
+    let tracks = traks-add (wide_more chunks wide) movie.scale (placing_at chunks [] a) (placing_at chunks wide b) 0 movie.tracks (placing-adds law chunks wide a b) in
+    let parts = behind more (mvhd (movie_fields movie)) _ _ tracks in
+    box-adds more (moov movie chunks [] a) (moov movie chunks wide b) refl
+    (omega (arith, parts, length-append (boxes_bytes (mvhd (movie_fields movie) ∷ traks movie.scale (placing_at chunks [] a) 0 movie.tracks)) movie.head.udta, length-append (boxes_bytes (mvhd (movie_fields movie) ∷ traks movie.scale (placing_at chunks wide b) 0 movie.tracks)) movie.head.udta))
 
-pub moov-longer : PlacesChangeNoLength → (movie : MovieRecord) (chunks : List Chunk) (wide others : List Bool) (a b : ℕ) → Within wide others
-    → length (box_bytes (moov movie chunks wide a)) ≤ length (box_bytes (moov movie chunks others b))
-moov-longer law movie chunks wide others a b grows =
-    let tracks = traks-longer movie.scale (placing_at chunks wide a) (placing_at chunks others b) 0 movie.tracks (λ k. placing-longer law chunks wide others a b k (grows k)) in
-    let parts = behind (mvhd (movie_fields movie)) _ _ tracks in
-    box-longer (moov movie chunks wide a) (moov movie chunks others b) refl
-    (omega (arith, parts, length-append (boxes_bytes (mvhd (movie_fields movie) ∷ traks movie.scale (placing_at chunks wide a) 0 movie.tracks)) movie.head.udta, length-append (boxes_bytes (mvhd (movie_fields movie) ∷ traks movie.scale (placing_at chunks others b) 0 movie.tracks)) movie.head.udta))
-
-pub front-longer : PlacesChangeNoLength → (movie : MovieRecord) (chunks : List Chunk) (wide others : List Bool) (a b : ℕ) → Within wide others
-    → length (front_at movie chunks wide a) ≤ length (front_at movie chunks others b)
-front-longer law movie chunks wide others a b grows =
+pub front-adds : PlacesChangeNoLength → (movie : MovieRecord) (chunks : List SampleChunk) (wide : List Bool) (a b : ℕ)
+    → length (front_at movie chunks wide b) ≡ length (front_at movie chunks [] a) + all_more (wide_more chunks wide) 0 movie.tracks
+front-adds law movie chunks wide a b =
     let head = mdat_head (length (payload chunks)) in
-    let one = box_bytes (moov movie chunks wide a) in
-    let other = box_bytes (moov movie chunks others b) in
+    let one = box_bytes (moov movie chunks [] a) in
+    let other = box_bytes (moov movie chunks wide b) in
     omega (
       arith,
-      moov-longer law movie chunks wide others a b grows,
+      moov-adds law movie chunks wide a b,
       length-append (box_bytes ftyp ++ one) head,
       length-append (box_bytes ftyp ++ other) head,
       length-append (box_bytes ftyp) one,
@@ -140,10 +159,30 @@ front-longer law movie chunks wide others a b grows =
     )
 
 -- the payload stands behind the front, wherever that says it does
-pub front-len : PlacesChangeNoLength → (movie : MovieRecord) (chunks : List Chunk) (wide : List Bool) (place : ℕ) → length (front_at movie chunks wide place) ≡ payload_place movie chunks wide
+pub front-len : PlacesChangeNoLength → (movie : MovieRecord) (chunks : List SampleChunk) (wide : List Bool) (place : ℕ) → length (front_at movie chunks wide place) ≡ payload_place movie chunks wide
 unfolding payload_place
-front-len law movie chunks wide place = omega (arith, front-longer law movie chunks wide wide place 0 (λ position e. e), front-longer law movie chunks wide wide 0 place (λ position e. e))
+front-len law movie chunks wide place = omega (arith, front-adds law movie chunks wide 0 place, front-adds law movie chunks wide 0 0)
 
-pub place-rises : PlacesChangeNoLength → (movie : MovieRecord) (chunks : List Chunk) (wide others : List Bool) → Within wide others → payload_place movie chunks wide ≤ payload_place movie chunks others
+pub place-adds : PlacesChangeNoLength → (movie : MovieRecord) (chunks : List SampleChunk) (wide : List Bool) → payload_place movie chunks wide ≡ payload_place movie chunks [] + all_more (wide_more chunks wide) 0 movie.tracks
 unfolding payload_place
-place-rises law movie chunks wide others grows = front-longer law movie chunks wide others 0 0 grows
+place-adds law movie chunks wide = front-adds law movie chunks wide 0 0
+
+-- with more tracks of places of 64 bits it stands no earlier
+more-rises : (chunks : List SampleChunk) (wide others : List Bool) (position : ℕ) → Within wide others → wide_more chunks wide position ≤ wide_more chunks others position
+more-rises chunks wide others position grows = by (get_or wide position false) (get_or others position false) (grows position)
+  where
+    by : (one other : Bool) → (one ≡ true → other ≡ true) → cond one (4 * length (chunks_at position 0 chunks)) 0 ≤ cond other (4 * length (chunks_at position 0 chunks)) 0
+    by true true h = omega arith
+    by true false h = absurd (no (h refl))
+      where
+        no : false ≡ true → ⊥
+        no e = cc
+    by false true h = omega arith
+    by false false h = omega arith
+
+all-rises : (chunks : List SampleChunk) (wide others : List Bool) (position : ℕ) (tracks : List TrackRecord) → Within wide others → all_more (wide_more chunks wide) position tracks ≤ all_more (wide_more chunks others) position tracks
+all-rises chunks wide others position [] grows = omega arith
+all-rises chunks wide others position (track ∷ tracks) grows = omega (arith, more-rises chunks wide others position grows, all-rises chunks wide others (position + 1) tracks grows)
+
+pub place-rises : PlacesChangeNoLength → (movie : MovieRecord) (chunks : List SampleChunk) (wide others : List Bool) → Within wide others → payload_place movie chunks wide ≤ payload_place movie chunks others
+place-rises law movie chunks wide others grows = omega (arith, place-adds law movie chunks wide, place-adds law movie chunks others, all-rises chunks wide others 0 movie.tracks grows)

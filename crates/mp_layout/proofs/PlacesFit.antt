@@ -6,9 +6,10 @@ use Rattle.std.proofs.lemmas.Bool.{and_parts}
 use Rattle.std.proofs.lemmas.List.FromFn.{get_or-map-range_with_len, length-map-range_with_len}
 use Rattle.mp_chunks.specs.Written.{PlacedChunk, PlacesChangeNoLength}
 use Rattle.mp_timeline.specs.Movie.{MovieRecord}
-use Rattle.mp_layout.specs.Order.{Chunk, chunk_bytes, chunks_at, placed}
-use Rattle.mp_layout.specs.File.{is_closed, payload_place, sets_of, wide_tracks}
-use Rattle.mp_layout.proofs.FrontLengths.{Within, place-rises}
+use Rattle.mp_interleave.specs.Samples.{SampleChunk}
+use Rattle.mp_layout.specs.Order.{chunk_bytes, chunks_at, placed}
+use Rattle.mp_layout.specs.File.{Within, is_closed, payload_place, sets_of, wide_tracks}
+use Rattle.mp_layout.proofs.FrontLengths.{place-rises}
 
 -- ---- sets of tracks
 
@@ -85,14 +86,14 @@ flag-inside [] position e = absurd (no_true e)
 flag-inside (flag ∷ set) zero e = omega arith
 flag-inside (flag ∷ set) (suc position) e = omega (arith, flag-inside set position e)
 
-same-flag : (set : List Bool) (position : ℕ) → position < length set → get_or set position true ≡ get_or set position false
+pub same-flag : (set : List Bool) (position : ℕ) → position < length set → get_or set position true ≡ get_or set position false
 same-flag [] position lt = absurd (omega arith)
 same-flag (flag ∷ set) zero lt = refl
 same-flag (flag ∷ set) (suc position) lt = same-flag set position (omega arith)
 
 -- ---- places
 
-passes-at : (test : ℕ → Bool) (from n k at : ℕ) → list_all test (range_with_len from n) ≡ true → k < n → from + k ≡ at → test at ≡ true
+pub passes-at : (test : ℕ → Bool) (from n k at : ℕ) → list_all test (range_with_len from n) ≡ true → k < n → from + k ≡ at → test at ≡ true
 passes-at test from zero k at e lt is = absurd (omega arith)
 passes-at test from (suc n) zero at e lt is = let here : at ≡ from = omega arith in rw here ((and_parts _ _ e).0)
 passes-at test from (suc n) (suc k) at e lt is = passes-at test (from + 1) n k at ((and_parts _ _ e).1) (omega arith) (omega arith)
@@ -104,7 +105,7 @@ fits-le place e = grind arith
 abbrev pub IsNear : PlacedChunk → Type 0
 IsNear chunk = chunk.place < 2 ^ 32
 
-fits-before : (position a b : ℕ) (chunks : List Chunk) → a ≤ b → list_all (λ chunk. nat_le chunk.place (2 ^ 32 - 1)) (chunks_at position b chunks) ≡ true → AllByRecursion IsNear (chunks_at position a chunks)
+fits-before : (position a b : ℕ) (chunks : List SampleChunk) → a ≤ b → list_all (λ chunk. nat_le chunk.place (2 ^ 32 - 1)) (chunks_at position b chunks) ≡ true → AllByRecursion IsNear (chunks_at position a chunks)
 fits-before position a b [] le e = tt
 fits-before position a b (chunk ∷ chunks) le e = by (chunk.track == position) (λ rest. fits-before position (a + length (chunk_bytes chunk)) (b + length (chunk_bytes chunk)) chunks (omega (arith, le)) rest) e
   where
@@ -118,12 +119,12 @@ fits-before position a b (chunk ∷ chunks) le e = by (chunk.track == position) 
 
 -- ---- the wide tracks
 
-record IsFit (movie : MovieRecord) (chunks : List Chunk) (position : ℕ) (wide : List Bool) : Type 0 where
+record IsFit (movie : MovieRecord) (chunks : List SampleChunk) (position : ℕ) (wide : List Bool) : Type 0 where
   pub set : List Bool
   pub within : Within wide set
   pub fits : list_all (λ chunk. nat_le chunk.place (2 ^ 32 - 1)) (chunks_at position (payload_place movie chunks set) chunks) ≡ true
 
-closed-fits : (movie : MovieRecord) (chunks : List Chunk) (position : ℕ) (set : List Bool) → is_closed movie chunks set ≡ true → position < length movie.tracks → get_or set position true ≡ false
+closed-fits : (movie : MovieRecord) (chunks : List SampleChunk) (position : ℕ) (set : List Bool) → is_closed movie chunks set ≡ true → position < length movie.tracks → get_or set position true ≡ false
     → list_all (λ chunk. nat_le chunk.place (2 ^ 32 - 1)) (chunks_at position (payload_place movie chunks set) chunks) ≡ true
 closed-fits movie chunks position set closed lt lacks =
     let test = λ (at : ℕ). get_or set at true || list_all (λ chunk. nat_le chunk.place (2 ^ 32 - 1)) (chunks_at at (payload_place movie chunks set) chunks) in
@@ -137,7 +138,7 @@ closed-fits movie chunks position set closed lt lacks =
         no_false e = cc
     or_second false b lacks e = e
 
-fit-set : (movie : MovieRecord) (chunks : List Chunk) (position : ℕ) → position < length movie.tracks → get_or (wide_tracks movie chunks) position false ≡ false → IsFit movie chunks position (wide_tracks movie chunks)
+fit-set : (movie : MovieRecord) (chunks : List SampleChunk) (position : ℕ) → position < length movie.tracks → get_or (wide_tracks movie chunks) position false ≡ false → IsFit movie chunks position (wide_tracks movie chunks)
 unfolding wide_tracks
 fit-set movie chunks position lt narrow =
     let n = length movie.tracks in
@@ -155,7 +156,7 @@ fit-set movie chunks position lt narrow =
       fits = closed-fits movie chunks position found.set found.one.closed_set lt found.lacks;
     }
 
-pub places-fit : PlacesChangeNoLength → (movie : MovieRecord) (chunks : List Chunk) (position : ℕ) → position < length movie.tracks → get_or (wide_tracks movie chunks) position false ≡ false
+pub places-fit : PlacesChangeNoLength → (movie : MovieRecord) (chunks : List SampleChunk) (position : ℕ) → position < length movie.tracks → get_or (wide_tracks movie chunks) position false ≡ false
     → AllByRecursion IsNear (chunks_at position (payload_place movie chunks (wide_tracks movie chunks)) chunks)
 places-fit law movie chunks position lt narrow =
     let fit = fit-set movie chunks position lt narrow in

@@ -1,5 +1,5 @@
 -- The samples of each track are found in the file of a movie, where the tables that are written say.
-use Rattle.std.proofs.Common.{◌≡◌, ℕ, ◌+◌, ◌^◌, ◌<◌, ◌≤◌, Bool, true, false, cond, List, [], ◌∷◌, ◌++◌, length, map, drop, get_or, refl, sym, ap, ◌∙◌, arith}
+use Rattle.std.proofs.Common.{◌≡◌, ℕ, zero, suc, ◌+◌, ◌^◌, ◌<◌, ◌≤◌, Bool, true, false, cond, List, [], ◌∷◌, ◌++◌, length, map, drop, get_or, refl, sym, ap, ◌∙◌, arith}
 use Rattle.std.specs.Prelude.{codes, nat_lt}
 use Rattle.std.specs.Int.{w32, w64, to_be_bytes}
 use Rattle.std.specs.List.{sum_by, AllByRecursion}
@@ -13,16 +13,22 @@ use Rattle.mp_chunks.specs.Written.{AreReadBack, PlacesAreRead, PlacesChangeNoLe
 use Rattle.mp_timeline.specs.Movie.{SampleRecord, TrackRecord, MovieRecord}
 use Rattle.mp_movie.specs.Columns.{sizes}
 use Rattle.mp_movie.specs.WellFormed.{AreConsecutive, HasEntry}
-use Rattle.mp_layout.specs.Order.{chunks_at, chunks_of, payload}
+use Rattle.mp_interleave.specs.Samples.{chunks_of}
+use Rattle.mp_interleave.specs.Law.{IsTimed, SamplesStandInChunks, samples_on}
+use Rattle.mp_layout.specs.Order.{chunks_at, payload}
 use Rattle.mp_layout.specs.Tables.{Placing}
 use Rattle.mp_layout.specs.Moov.{moov, placing_at}
 use Rattle.mp_layout.specs.File.{file_bytes, front_at, mdat_head, payload_place, wide_tracks}
 use Rattle.mp_layout.proofs.Laws.{IsPlaced, written_bodies}
 use Rattle.mp_layout.proofs.FrontLengths.{front-len}
 use Rattle.mp_layout.proofs.PlacesFit.{places-fit}
-use Rattle.mp_layout.proofs.SamplesInOrder.{IsTimed, all-alike, at-position, samples-kept, samples_on}
 use Rattle.mp_layout.proofs.ChunksAreFound.{FitsField, IsSound, all-wide, all-writable, bytes-read, bytes_at, bytes_of, entries_of, kinds-kept, kinds_in, sizes-kept}
 use Rattle.mp_layout.proofs.PayloadIsShort.{AreShort, part-of-all, payload-short}
+
+pub at-position : (P : TrackRecord → Type 0) (tracks : List TrackRecord) (position : ℕ) (d : TrackRecord) → AllByRecursion P tracks → position < length tracks → P (get_or tracks position d)
+at-position P [] position d all lt = absurd (omega arith)
+at-position P (track ∷ tracks) zero d all lt = all.0
+at-position P (track ∷ tracks) (suc position) d all lt = at-position P tracks position d all.1 (omega arith)
 
 -- ---- what is asked of a movie
 
@@ -113,9 +119,9 @@ fields-fit law movie millis position lt short =
     by false is all near = near is
 
 -- the samples of each track are found where the tables that are written for it say
-pub samples-found : PlacesAreRead → PlacesChangeNoLength → (movie : MovieRecord) (millis position : ℕ) (d : TrackRecord) → HasFoundSamples movie → position < length movie.tracks → length (file_bytes movie millis) < 2 ^ 64
+pub samples-found : SamplesStandInChunks → PlacesAreRead → PlacesChangeNoLength → (movie : MovieRecord) (millis position : ℕ) (d : TrackRecord) → HasFoundSamples movie → position < length movie.tracks → length (file_bytes movie millis) < 2 ^ 64
     → IsPlaced (file_bytes movie millis) (length (get_or movie.tracks position d).entries) (get_or movie.tracks position d).samples (written_bodies (get_or movie.tracks position d) (placing_in movie millis position))
-samples-found places lengths movie millis position d found lt short =
+samples-found order places lengths movie millis position d found lt short =
     let file = file_bytes movie millis in
     let chunks = chunks_of millis movie in
     let wide = wide_tracks movie chunks in
@@ -123,12 +129,12 @@ samples-found places lengths movie millis position d found lt short =
     let track = get_or movie.tracks position d in
     let times = all-times movie.tracks found.tracks in
     let sound = at-position HasSoundSamples movie.tracks position d found.tracks lt in
-    let kept : samples_on position chunks ≡ track.samples = samples-kept millis position movie d times lt in
+    let kept : samples_on position chunks ≡ track.samples = order.kept millis movie position d times lt in
     let payload_here = has-payload lengths movie millis in
     let each : AllByRecursion (IsSound (length track.entries)) (samples_on position chunks) = rw kept (each-sound (length track.entries) track.samples sound.kinds sound.sizes) in
     let few : length (samples_on position chunks) < 2 ^ 32 = omega (arith, ap length kept, part-of-all movie.tracks position d lt, found.few) in
-    let writable = all-writable (get_or wide position false) (length track.entries) (length file) position place chunks each (fields-fit lengths movie millis position lt short) (omega (arith, payload_here.ends)) few sound.entries in
-    placed-by file track (placing_in movie millis position) (sizes-kept position place chunks ∙ ap sizes kept) (kinds-kept position place chunks (all-alike millis movie) ∙ ap entries_of kept)
+    let writable = all-writable (get_or wide position false) (length track.entries) (length file) position place chunks (order.alike millis movie times) each (fields-fit lengths movie millis position lt short) (omega (arith, payload_here.ends)) few sound.entries in
+    placed-by file track (placing_in movie millis position) (sizes-kept position place chunks ∙ ap sizes kept) (kinds-kept position place chunks (order.alike millis movie times) ∙ ap entries_of kept)
     (bytes-read file position place chunks [] payload_here.here ∙ ap bytes_of kept) (places.each (get_or wide position false) (length track.entries) (length file) (chunks_at position place chunks) writable)
 
 -- ---- how long the file is
@@ -149,10 +155,10 @@ head-len len = by (nat_lt (8 + len) (2 ^ 32))
         two false = omega arith
 
 -- where `moov` is shorter than 2^32 bytes, the file is shorter than 2^64
-pub file-short : PlacesChangeNoLength → (movie : MovieRecord) (millis : ℕ) → HasFoundSamples movie
+pub file-short : SamplesStandInChunks → PlacesChangeNoLength → (movie : MovieRecord) (millis : ℕ) → HasFoundSamples movie
     → length (box_bytes (moov movie (chunks_of millis movie) (wide_tracks movie (chunks_of millis movie)) (payload_place movie (chunks_of millis movie) (wide_tracks movie (chunks_of millis movie))))) < 2 ^ 32
     → length (file_bytes movie millis) < 2 ^ 64
-file-short law movie millis found short =
+file-short order law movie millis found short =
     let chunks = chunks_of millis movie in
     let wide = wide_tracks movie chunks in
     let place = payload_place movie chunks wide in
@@ -167,6 +173,6 @@ file-short law movie millis found short =
       length-append (box_bytes ftyp) box,
       ftyp-len,
       head-len (length (payload chunks)),
-      payload-short millis movie (all-times movie.tracks found.tracks) (all-short movie.tracks found.tracks),
+      payload-short order millis movie (all-times movie.tracks found.tracks) (all-short movie.tracks found.tracks),
       found.few,
     )

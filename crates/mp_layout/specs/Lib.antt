@@ -5,5 +5,8 @@ pub mod File
 pub mod Example
 pub mod Law
 pub mod Written
+pub mod Wide
+pub mod Chunked
+pub mod Layout
 pub mod Plan
 pub mod Emitted

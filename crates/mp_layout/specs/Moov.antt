@@ -10,7 +10,8 @@ use Rattle.mp_timeline.specs.Movie.{TrackRecord, MovieRecord}
 use Rattle.mp_edits.specs.EditBox.{edts}
 use Rattle.mp_entries.specs.Reference.{dref}
 use Rattle.mp_movie.specs.Heads.{movie_fields, track_fields, media_fields}
-use Rattle.mp_layout.specs.Order.{Chunk, chunks_at}
+use Rattle.mp_interleave.specs.Samples.{SampleChunk}
+use Rattle.mp_layout.specs.Order.{chunks_at}
 use Rattle.mp_layout.specs.Tables.{Placing, stbl}
 
 -- the data information box (8.7.1): the data references and nothing else
@@ -34,7 +35,7 @@ abbrev pub trak : ℕ → TrackRecord → Placing → Part
 trak movie_scale track placing = with_user_data (codes "trak") (tkhd (track_fields movie_scale track) ∷ optional (edts track.edits) ++ mdia track placing ∷ []) track.head.udta
 
 -- where the samples of the track at a position stand: the first chunk of the movie is at `place`, and these tracks have places of 64 bits
-abbrev pub placing_at : List Chunk → List Bool → ℕ → ℕ → Placing
+abbrev pub placing_at : List SampleChunk → List Bool → ℕ → ℕ → Placing
 placing_at chunks wide place position = record { chunks = chunks_at position place chunks; wide = get_or wide position false }
 
 -- the boxes of the tracks, the first at that position
@@ -43,6 +44,6 @@ traks movie_scale placing position [] = []
 traks movie_scale placing position (track ∷ tracks) = trak movie_scale track (placing position) ∷ traks movie_scale placing (position + 1) tracks
 
 -- the movie box (8.2.1), with its header (8.2.2)
-abbrev pub moov : MovieRecord → List Chunk → List Bool → ℕ → Part
+abbrev pub moov : MovieRecord → List SampleChunk → List Bool → ℕ → Part
 moov movie chunks wide place =
     with_user_data (codes "moov") (mvhd (movie_fields movie) ∷ traks movie.scale (placing_at chunks wide place) 0 movie.tracks) movie.head.udta

@@ -1,6 +1,6 @@
 -- The boxes that are written of a track as it is kept: of its columns, and of the chunks in which its samples stand,
 -- with places in 64 bits or in 32.
-use Rattle.std.specs.Prelude.{◌≡◌, ℕ, ℤ, pos, ◌<◌, ◌≤◌, ◌^◌, Bool, List, [], ◌∷◌, All, map, length, slice_index_or, unsigned_abs, codes, if◌then◌else◌}
+use Rattle.std.specs.Prelude.{◌≡◌, ℕ, ◌<◌, ◌≤◌, ◌^◌, Bool, List, ◌∷◌, All, map, length, codes, if◌then◌else◌}
 use Rattle.std.specs.declared.alloc.Global.{Global}
 use Rattle.std.specs.declared.vec.Vec.{Vec}
 use Rattle.mp_boxes.specs.Field.{Part, box_bytes}
@@ -12,10 +12,9 @@ use Rattle.mp_chunks.specs.Written.{head_of, unplaced}
 use Rattle.mp_headers.specs.MovieHeader.{mvhd}
 use Rattle.mp_timeline.specs.Movie.{TrackRecord, MovieRecord}
 use Rattle.mp_movie.specs.Heads.{media_fields, movie_fields, track_fields}
-use Rattle.mp_movie.specs.Placed.{PlacedTrack, PlacedMovie}
-use Rattle.mp_movie.specs.StandsFor.{HoldTrack, stands_for, track_for}
+use Rattle.mp_movie.specs.Placed.{PlacedTrack}
+use Rattle.mp_movie.specs.StandsFor.{HoldTrack, track_for}
 use Rattle.mp_layout.specs.declared.trak.TrackBoxes.{TrackBoxes}
-use Rattle.mp_layout.specs.declared.moov.MovieBoxes.{MovieBoxes}
 use Rattle.mp_layout.specs.Tables.{Placing, stbl}
 use Rattle.mp_layout.specs.Moov.{mdia, minf, trak, with_user_data}
 
@@ -49,14 +48,6 @@ BoxIsPushed old new box track chunks wide =
     (files : List (List ℕ)) (placing : Placing) → IsPlaced files track chunks wide placing
     → IsPushed old new (box_bytes (box (track_for files track) placing))
 
--- the one chunk of all its samples, at that place
-abbrev pub chunk_of : PlacedTrack → ℕ → ChunkHead
-chunk_of track place = record {
-  place = place;
-  samples = length track.kinds;
-  entry = unsigned_abs (slice_index_or track.kinds 0 (pos 0));
-}
-
 -- these are the headers of the track, and the lengths of the boxes around them
 pub record AreTrackBoxes (track : PlacedTrack) (chunks : List ChunkHead) (wide : Bool) (boxes : TrackBoxes) : Type 0 where
   pub header : (files : List (List ℕ)) → boxes.header ≡ track_fields boxes.movie_scale (track_for files track)
@@ -66,23 +57,6 @@ pub record AreTrackBoxes (track : PlacedTrack) (chunks : List ChunkHead) (wide :
   pub minf : BoxHasLen boxes.minf minf track chunks wide
   pub stbl : BoxHasLen boxes.stbl stbl track chunks wide
 
--- the movie box of this movie, where this is its one track
-abbrev pub moov_of : PlacedMovie → TrackRecord → Placing → Part
-moov_of movie track placing =
-    let whole : MovieRecord = record { scale = movie.scale; head = movie.head; tracks = track ∷ [] } in
-    with_user_data (codes "moov") (mvhd (movie_fields whole) ∷ trak movie.scale track placing ∷ []) movie.head.udta
-
--- these are its header, the length of the box around it, and the boxes of the track
-pub record AreMovieBoxes (movie : PlacedMovie) (track : PlacedTrack) (chunks : List ChunkHead) (wide : Bool) (boxes : MovieBoxes) : Type 0 where
-  pub header : (files : List (List ℕ)) → boxes.header ≡ movie_fields (stands_for files movie)
-  pub whole : BoxHasLen boxes.moov (moov_of movie) track chunks wide
-  pub only : AreTrackBoxes track chunks wide boxes.track
-  pub scale : boxes.track.movie_scale ≡ movie.scale
-
--- the movie has one track, with at least one sample and all samples of one entry: they are one chunk
-pub record IsOneChunk (movie : PlacedMovie) : Type 0 where
-  pub track : PlacedTrack
-  pub one_track : movie.tracks ≡ track ∷ []
-  pub some_samples : 0 < length track.deltas
-  pub entry : ℤ
-  pub one_entry : All (λ kind. kind ≡ entry) track.kinds
+-- the movie box of a movie, whose tracks have these boxes
+abbrev pub moov_with : MovieRecord → List Part → Part
+moov_with movie traks = with_user_data (codes "moov") (mvhd (movie_fields movie) ∷ traks) movie.head.udta

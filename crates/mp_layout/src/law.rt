@@ -11,6 +11,7 @@ use mp_chunks::{places_are_read, places_change_no_length};
 use mp_edits::edits_are_read;
 use mp_entries::{descriptions_are_read, references_are_read};
 use mp_headers::headers_are_read;
+use mp_interleave::samples_stand_in_chunks;
 use mp_movie::same_movie_is_presented;
 use mp_times::tables_are_read;
 
@@ -31,6 +32,7 @@ pub fn file_presents_movie()
     places_are_read();
     places_change_no_length();
     same_movie_is_presented();
+    samples_stand_in_chunks();
 }
 
 /// A file by hand, of two tracks in windows of a second, with edits, offsets below 0, sync marks, two entries

@@ -1,5 +1,7 @@
 //! The sample table box of a track (ISO/IEC 14496-12, 8.5.1), from the track's columns.
 
+ghost use Rattle.std.specs.Prelude.{◌≤◌, length};
+ghost use Rattle.mp_columns.specs.declared.columns.TheConstants.{MOST_ITEMS};
 ghost use Rattle.mp_movie.specs.CanBeWritten.{CanBeWritten};
 ghost use Rattle.mp_layout.specs.Tables.{stbl};
 ghost use Rattle.mp_layout.specs.Written.{BoxHasLen, BoxIsPushed, CanBePlaced};
@@ -16,7 +18,7 @@ use mp_times::{ctts_len, push_ctts, push_stss, push_stts, stss_len, stts_len};
 /// The length of the box `stbl` of a track whose samples stand in these chunks.
 pub fn stbl_len(track: &Track, chunks: &[ChunkHead], wide: bool) -> u64
     requires track { CanBeWritten track.now }
-    requires chunks { CanBePlaced chunks.now wide }
+    requires few { length chunks.now ≤ MOST_ITEMS }
     ensures { BoxHasLen result stbl track.now chunks.now wide }
 {
     columns_are_kept();

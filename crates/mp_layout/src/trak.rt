@@ -1,10 +1,11 @@
 //! The track box and the boxes in it, down to the sample tables (ISO/IEC 14496-12, 8.3.1, 8.4.1 and 8.4.4). Each
 //! length is computed once, before anything is pushed.
 
-ghost use Rattle.std.specs.Prelude.{◌≡◌};
+ghost use Rattle.std.specs.Prelude.{◌≡◌, ◌≤◌, length};
 ghost use Rattle.mp_boxes.specs.Field.{box_bytes};
 ghost use Rattle.mp_boxes.specs.Push.{IsPushed};
 ghost use Rattle.mp_boxes.specs.Table.{HasLen};
+ghost use Rattle.mp_columns.specs.declared.columns.TheConstants.{MOST_ITEMS};
 ghost use Rattle.mp_movie.specs.CanBeWritten.{CanBeWritten};
 ghost use Rattle.mp_layout.specs.Moov.{dinf, mdia, minf, trak};
 ghost use Rattle.mp_layout.specs.Written.{AreTrackBoxes, BoxIsPushed, CanBePlaced};
@@ -37,7 +38,7 @@ pub struct TrackBoxes {
 /// The headers and lengths of the boxes of a track, whose samples stand in these chunks.
 pub fn track_boxes(movie_scale: u32, track: &Track, chunks: &[ChunkHead], wide: bool) -> TrackBoxes
     requires track { CanBeWritten track.now }
-    requires chunks { CanBePlaced chunks.now wide }
+    requires few { length chunks.now ≤ MOST_ITEMS }
     ensures boxes { AreTrackBoxes track.now chunks.now wide result }
     ensures scale { result.movie_scale ≡ movie_scale }
 {

@@ -19,7 +19,7 @@ returns c =
       edits = c.edits_are_read.ensures;
     } in
     let read : (movie : MovieRecord) (millis : ℕ) → IsWellFormed movie → Fits movie → HasShortMoov movie millis → IsFileRead (file_bytes movie millis) movie =
-    λ movie millis formed fits short. file-presents laws c.places_are_read.ensures c.places_change_no_length.ensures movie millis formed fits short in
+    λ movie millis formed fits short. file-presents laws c.samples_stand_in_chunks.ensures c.places_are_read.ensures c.places_change_no_length.ensures movie millis formed fits short in
     record {
       sound = λ movie millis formed fits short. (read movie millis formed fits short).sound;
       exact = λ movie millis formed fits short. (read movie millis formed fits short).read;

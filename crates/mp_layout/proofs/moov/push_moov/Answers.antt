@@ -1,31 +1,30 @@
-use Rattle.std.proofs.Common.{rules, ◌≡◌, ℕ, List, [], ◌∷◌, codes, sym, ap, ◌∙◌}
-use Rattle.mp_boxes.specs.Field.{Part}
+use Rattle.std.proofs.Common.{rules, ◌≡◌, List, ℕ, [], ◌∷◌, codes, map, subst, sym, append_assoc}
+use Rattle.mp_boxes.specs.Field.{Part, box_bytes}
+use Rattle.mp_boxes.specs.Push.{IsPushing}
 use Rattle.mp_headers.specs.declared.movie_header.Mvhd.{Mvhd}
 use Rattle.mp_headers.specs.MovieHeader.{mvhd}
-use Rattle.mp_movie.specs.Heads.{movie_fields}
 use Rattle.mp_movie.specs.StandsFor.{track_for}
-use Rattle.mp_layout.specs.Moov.{trak, with_user_data}
-use Rattle.mp_layout.proofs.Containers.{same-box, same-len, somewhere, user-data-left}
-use Rattle.mp_layout.proofs.OneChunk.{one-for}
+use Rattle.mp_layout.specs.Moov.{traks, with_user_data}
+use Rattle.mp_layout.proofs.Containers.{same-box, same-len, user-data-left}
+use Rattle.mp_layout.proofs.TraksInTurn.{tracks-in-words}
 use Rattle.mp_layout.proofs.moov.push_moov.Goals as goal
 
-abbrev boxed : Part → Mvhd → List ℕ → Part
-boxed only m udta = with_user_data (codes "moov") (mvhd m ∷ only ∷ []) udta
+abbrev boxed : List Part → Mvhd → List ℕ → Part
+boxed parts m udta = with_user_data (codes "moov") (mvhd m ∷ parts) udta
 
-moov-by : (one other : Part) (a b : Mvhd) (d e : List ℕ) → one ≡ other → a ≡ b → d ≡ e → boxed one a d ≡ boxed other b e
-moov-by one other a b d e o p q = λ i. boxed (o i) (p i) (q i)
+moov-by : (parts : List Part) (a b : Mvhd) (d e : List ℕ) → a ≡ b → d ≡ e → boxed parts a d ≡ boxed parts b e
+moov-by parts a b d e p q = λ i. boxed parts (p i) (q i)
 
 pub returns : goal.returns
-returns c = λ files placing at.
+returns c = λ files placing placed has.
     let movie = c.args.movie.now in
-    let track = c.args.track.now in
-    let boxes = c.args.boxes.now in
+    let parts = traks movie.scale placing 0 (map (track_for files) movie.tracks) in
     let udta : c.deref.result.now ≡ movie.head.udta = search rules in
-    let header = c.requires.boxes.header files ∙ ap movie_fields (one-for files movie track c.requires.one_track) in
-    let only = ap (λ (n : ℕ). trak n (track_for files track) placing) c.requires.boxes.scale in
-    let same = moov-by _ _ _ _ _ _ only header udta in
-    let len = same-len _ _ _ (sym same) (c.requires.boxes.whole files placing (somewhere at)) in
+    let same = moov-by parts _ _ _ _ (c.movie_header.ensures files) udta in
+    let len = same-len _ _ _ (sym same) has in
+    let pushes = tracks-in-words _ _ _ _ _ _ _ _ _ c.scale.ensures c.tracks.ensures.tracks c.in_ok-push_traks.ensures files placing placed in
     same-box _ _ _ _ same
     (λ rest all p.
-    let begun = user-data-left _ _ (codes "moov") boxes.moov c.begin_box.ensures.rows (mvhd boxes.header ∷ trak boxes.track.movie_scale (track_for files track) placing ∷ []) c.deref.result.now len rest all p in
-    c.push_bytes.ensures rest all (c.push_trak.ensures files placing at _ all (c.push_mvhd.ensures _ all begun)))
+    let begun = user-data-left _ _ (codes "moov") c.args.len c.begin_box.ensures.rows (mvhd c.movie_header.result ∷ parts) c.deref.result.now len rest all p in
+    let left = subst (λ (texts : List (List ℕ)). IsPushing c.push_mvhd.new.out texts all) (append_assoc (map box_bytes parts) (c.deref.result.now ∷ []) rest) (c.push_mvhd.ensures _ all begun) in
+    c.push_bytes.ensures rest all (pushes _ all left))

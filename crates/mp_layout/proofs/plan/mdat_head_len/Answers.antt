@@ -1,5 +1,5 @@
 use Rattle.std.proofs.Common.{arith}
-use Rattle.mp_layout.proofs.FrontIsPlanned.{long-head, short-head}
+use Rattle.mp_layout.proofs.HeadsOfMdat.{long-head, short-head}
 use Rattle.mp_layout.proofs.plan.mdat_head_len.Goals as goal
 
 pub returns-then-payload-from-clause-len : goal.returns-then-payload-from-clause-len

@@ -1,92 +1,85 @@
-use Rattle.std.proofs.Common.{rules, arith, ◌≡◌, ℕ, ◌+◌, ◌++◌, List, [], ◌∷◌, false, length, ap, ◌∙◌, sym, subst, refl, append-nil, Some}
-use Rattle.std.specs.List.{AllByRecursion}
-use Rattle.std.proofs.lemmas.List.{length-append}
-use Rattle.mp_chunks.specs.declared.push.ChunkHead.{ChunkHead}
-use Rattle.mp_boxes.specs.Field.{Part, box_bytes}
-use Rattle.mp_boxes.specs.Push.{IsPushing}
-use Rattle.mp_headers.specs.FileType.{ftyp}
-use Rattle.mp_movie.specs.CanBeWritten.{CanBeWritten}
-use Rattle.mp_movie.specs.Placed.{PlacedTrack}
-use Rattle.mp_movie.specs.Present.{Presents, present}
-use Rattle.mp_movie.specs.StandsFor.{stands_for, track_for}
-use Rattle.mp_layout.specs.Order.{chunks_of, payload}
-use Rattle.mp_layout.specs.File.{file_bytes, front_at, mdat_head}
-use Rattle.mp_layout.specs.Written.{AreMovieBoxes, BoxIsPushed, chunk_of, moov_of}
-use Rattle.mp_layout.proofs.FrontIsPlanned.{file-for, front-for, held-for, in-pieces, moov-for, moov-len, moved, payload-for, placed-for, placing-for, single-for, too-long, unrefused}
-use Rattle.mp_layout.proofs.FrontLengths.{front-len}
+use Rattle.std.proofs.Common.{arith, ◌≡◌, ◌+◌, List, length, map, ap, refl, sym, subst, ◌∙◌}
+use Rattle.std.specs.List.{sum_by}
+use Rattle.std.proofs.lemmas.List.{length-map}
+use Rattle.std.proofs.lemmas.Result.{err_from_is_err_and}
+use Rattle.mp_boxes.specs.Table.{capped}
+use Rattle.mp_layout.specs.declared.wide.Reach.{Reach}
+use Rattle.mp_layout.specs.Chunked.{AreReaches, places_behind}
+use Rattle.mp_layout.proofs.NumbersOfMovies.{AreCounted, PlanLaws, behind-in-words, few-chunks, places-count, reaches-in-words}
+use Rattle.mp_layout.proofs.FieldsAreWide.{can-all-be-placed, short-reaches}
+use Rattle.mp_layout.proofs.FilesArePlanned.{can-in-words, placed-in-words, planned-for, refused-plans}
 use Rattle.mp_layout.proofs.plan.plan_file.Goals as goal
-use Rattle.mp_layout.proofs.plan.plan_file.Goals.{After-index-tracks-0}
+use Rattle.mp_layout.proofs.plan.plan_file.Goals.{After-deref-5, After-deref-8}
 
--- the one track can be written
-can : (c : After-index-tracks-0) → CanBeWritten c.requires.track
-can c = (subst (λ (tracks : List PlacedTrack). AllByRecursion CanBeWritten tracks) c.requires.one_track (c.parts_can_be_written.ensures c.args.movie.now c.tracks.ensures.whole c.tracks.ensures.fits)).0
+laws : (c : After-deref-5) → PlanLaws
+laws c = record {
+  format = c.file_presents_movie.ensures;
+  boxes = c.boxes_have_lengths.ensures;
+  places = c.places_change_no_length.ensures;
+  columns = c.columns_are_kept.ensures;
+  stand = c.parts_stand_for_movies.ensures;
+  order = c.samples_stand_in_chunks.ensures;
+  plans = c.plans_stand_for_chunks.ensures;
+}
 
-pub movie_boxes-boxes-requires-clause-track : goal.movie_boxes-boxes-requires-clause-track
-movie_boxes-boxes-requires-clause-track c =
-    let track : c.index-tracks-0.result ≡ c.requires.track = search rules in
-    subst CanBeWritten (sym track) (can (goal.at.movie_boxes-boxes-requires-clause-track c).After-index-tracks-0)
+-- the numbers that were counted are those of the movie
+counted : (c : After-deref-5) → AreCounted c.args.movie.now c.args.plan c.deref-5.result.now c.moov_len-narrow.result c.mdat_head_len-head.result c.payload-payload.result
+counted c =
+    let places = c.deref-3.ensures.value ∙ (c.in_ok-behind.ensures ∙ ap (places_behind c.tracks-tracks.result.now 0) (c.deref.ensures.value ∙ sym c.deref-2.ensures.value)) in
+    let reaches = reaches-in-words c.scale.result c.args.movie.now.scale c.tracks-tracks.result.now c.args.movie.now.tracks c.deref-2.result.now c.args.plan c.deref-3.result.now _
+    c.scale.ensures c.tracks-tracks.ensures.tracks (c.deref-2.ensures.value ∙ c.plan.view_is) places c.in_ok-reaches.ensures in
+    record {
+      reaches_are = subst (AreReaches c.args.movie.now.scale c.args.movie.now.tracks c.args.plan (places_behind c.args.movie.now.tracks 0 c.args.plan) (length c.args.movie.now.tracks)) (sym c.deref-5.ensures.value) reaches;
+      narrow_is = λ files parts e. c.moov_len-narrow.ensures files parts (c.traks_len.ensures ∙ (ap (λ (rs : List Reach). capped (sum_by (λ reach. reach.trak) rs)) (c.deref-4.ensures.value ∙ sym c.deref-5.ensures.value) ∙ e));
+      bytes_are = c.payload-payload.ensures.bytes;
+      short = c.payload-payload.ensures.short;
+      head_is = c.mdat_head_len-head.ensures.len;
+      small = c.mdat_head_len-head.ensures.small;
+    }
 
-pub returns-then-boxes-gt-MOST_MOOV : goal.returns-then-boxes-gt-MOST_MOOV
-returns-then-boxes-gt-MOST_MOOV c = λ files hold.
-    let movie = c.args.movie.now in
-    let one = c.requires in
-    let track : c.index-tracks-0.result ≡ one.track = search rules in
-    let columns = (can (goal.at.returns-then-boxes-gt-MOST_MOOV c).After-index-tracks-0).columns in
-    let held = held-for files movie one hold in
-    let asked = subst (λ (h : ChunkHead). AreMovieBoxes movie c.index-tracks-0.result (h ∷ []) false c.movie_boxes-boxes.result) c.chunk_of-chunk.ensures c.movie_boxes-boxes.ensures in
-    let boxes = subst (λ (t : PlacedTrack). AreMovieBoxes movie t (chunk_of t 0 ∷ []) false c.movie_boxes-boxes.result) track asked in
-    let len = moov-len c.columns_are_kept.ensures files movie one columns held _ boxes.whole in
-    too-long c.boxes_have_lengths.ensures c.places_change_no_length.ensures (stands_for files movie) _ len (omega (arith, c.if-boxes-gt-MOST_MOOV.true)) ∙ ap Some (sym c.at.ensures)
+-- the places of the chunks in the file
+offsets : (c : After-deref-8) → c.deref-8.result.now ≡ map (λ behind. capped (c.ftyp_len.result + c.in_ok-layout.layout.moov + c.mdat_head_len-head.result + behind)) (places_behind c.args.movie.now.tracks 0 c.args.plan)
+offsets c =
+    let place = c.ftyp_len.result + c.in_ok-layout.layout.moov + c.mdat_head_len-head.result in
+    c.deref-8.ensures.value ∙ (c.in_ok-offsets.ensures ∙ ap (map (λ b. capped (place + b))) (c.deref-6.ensures.value ∙ behind-in-words _ _ _ _ _ c.tracks-tracks.ensures.tracks (c.deref.ensures.value ∙ c.plan.view_is) c.in_ok-behind.ensures))
 
-pub push_moov-requires-clause-track : goal.push_moov-requires-clause-track
-push_moov-requires-clause-track c =
-    let track : c.index-tracks-0.result ≡ c.requires.track = search rules in
-    subst CanBeWritten (sym track) (can (goal.at.push_moov-requires-clause-track c).After-index-tracks-0)
+pub track_reaches-requires-clause-places : goal.track_reaches-requires-clause-places
+track_reaches-requires-clause-places c =
+    ap length (c.deref-3.ensures.value ∙ c.in_ok-behind.ensures) ∙ (places-count c.tracks-tracks.result.now 0 c.deref.result.now ∙ ap length (c.deref.ensures.value ∙ sym c.deref-2.ensures.value))
 
-pub push_moov-requires-clause-boxes : goal.push_moov-requires-clause-boxes
-push_moov-requires-clause-boxes c = moved _ _ _ _ _ refl c.movie_boxes-boxes.ensures
+pub least_layout-requires-clause-short : goal.least_layout-requires-clause-short
+least_layout-requires-clause-short c =
+    let few = few-chunks c.plans_stand_for_chunks.ensures c.args.movie.now c.args.plan c.args.plan c.requires.order refl (omega (arith, c.samples-samples.ensures.count, c.samples-samples.ensures.most)) in
+    short-reaches _ _ _ _ c.deref-5.result.now (counted (goal.at.least_layout-requires-clause-short c).After-deref-5).reaches_are few
+
+pub returns-in_err-layout : goal.returns-in_err-layout
+returns-in_err-layout c = λ millis is.
+    let it = (goal.at.returns-in_err-layout c).After-deref-5 in
+    let p = err_from_is_err_and c.from_residual-in_err-layout.result c.from_residual-in_err-layout.ensures.1 in
+    rw (p.1, p.2) (refused-plans (laws it) c.args.movie.now millis c.args.plan c.deref-5.result.now c.moov_len-narrow.result c.mdat_head_len-head.result c.payload-payload.result c.tracks-tracks.ensures.whole is (counted it) _ c.in_err-layout.ensures.refused)
+
+pub push_front-requires-clause-places : goal.push_front-requires-clause-places
+push_front-requires-clause-places c =
+    let it = (goal.at.push_front-requires-clause-places c).After-deref-8 in
+    ap length (offsets it) ∙ (length-map (places_behind c.args.movie.now.tracks 0 c.args.plan) _ ∙ (places-count c.args.movie.now.tracks 0 c.args.plan ∙ ap length (sym (c.deref-7.ensures.value ∙ c.plan.view_is))))
+
+pub push_front-requires-clause-placed : goal.push_front-requires-clause-placed
+push_front-requires-clause-placed c =
+    let here = goal.at.push_front-requires-clause-placed c in
+    let laid = c.in_ok-layout.ensures.laid in
+    let few = few-chunks c.plans_stand_for_chunks.ensures c.args.movie.now c.args.plan c.args.plan c.requires.order refl (omega (arith, c.samples-samples.ensures.count, c.samples-samples.ensures.most)) in
+    let moov = laid.moov in
+    can-in-words c.args.movie.now.tracks _ c.args.plan _ _ _ (c.deref-7.ensures.value ∙ c.plan.view_is) (offsets here.After-deref-8)
+    (can-all-be-placed _ _ _ _ c.deref-5.result.now _ _ _ (counted here.After-deref-5).reaches_are few laid.least (omega (arith, c.ftyp_len.ensures, moov)))
 
 pub returns : goal.returns
-returns c = λ files hold.
-    let movie = c.args.movie.now in
-    let one = c.requires in
-    let record_ = stands_for files movie in
-    let chunks = chunks_of 0 record_ in
-    let columns_law = c.columns_are_kept.ensures in
-    let track : c.index-tracks-0.result ≡ one.track = search rules in
-    let columns = (can (goal.at.returns c).After-index-tracks-0).columns in
-    let held = held-for files movie one hold in
-    let asked = subst (λ (h : ChunkHead). AreMovieBoxes movie c.index-tracks-0.result (h ∷ []) false c.movie_boxes-boxes.result) c.chunk_of-chunk.ensures c.movie_boxes-boxes.ensures in
-    let boxes = subst (λ (t : PlacedTrack). AreMovieBoxes movie t (chunk_of t 0 ∷ []) false c.movie_boxes-boxes.result) track asked in
-    let len = moov-len columns_law files movie one columns held _ boxes.whole in
-    let paid : c.payload-payload.result ≡ length (payload chunks) = c.payload-payload.ensures.bytes ∙ payload-for columns_law files movie one columns held in
-    let place = c.ftyp_len.result + c.movie_boxes-boxes.result.moov + c.mdat_head_len.result in
-    let single = single-for columns_law files movie one columns in
-    let head_is = c.mdat_head_len.ensures.len ∙ ap (λ (n : ℕ). length (mdat_head n)) paid in
-    let front = front-for c.boxes_have_lengths.ensures c.places_change_no_length.ensures record_ single _ len (omega (arith, c.if-boxes-gt-MOST_MOOV.false)) place c.mdat_head_len.result head_is c.mdat_head_len.ensures.small (omega (arith, c.ftyp_len.ensures)) in
-    let text : List ℕ = front_at record_ chunks (false ∷ []) place in
-    let text_len : length text ≡ place = front-len c.places_change_no_length.ensures record_ chunks (false ∷ []) place ∙ sym front.place_is in
-    let begun = in-pieces _ _ _ _ _ (c.in_ok-reserve.ensures.text text text_len) in
-    let out = c.reserve.new.out in
-    let all = c.new-front.result.items ++ text in
-    let pieces = subst (λ (m : Part). IsPushing out (box_bytes ftyp ∷ box_bytes m ∷ mdat_head (length (payload chunks)) ∷ []) all) (moov-for columns_law files movie one columns place) begun in
-    let left = subst (λ (n : ℕ). IsPushing out (box_bytes ftyp ∷ box_bytes (moov_of movie (track_for files one.track) (placing-for files movie one place)) ∷ mdat_head n ∷ []) all) (sym paid) pieces in
-    let pushes = subst (λ (h : ChunkHead). BoxIsPushed c.push_ftyp.new.out c.push_moov.new.out (moov_of movie) c.index-tracks-0.result (record { place = place; samples = h.samples; entry = h.entry } ∷ []) false) c.chunk_of-chunk.ensures c.push_moov.ensures in
-    let moov_pushed = subst (λ (t : PlacedTrack). BoxIsPushed c.push_ftyp.new.out c.push_moov.new.out (moov_of movie) t (chunk_of t place ∷ []) false) track pushes files (placing-for files movie one place) (placed-for columns_law files movie one columns held place) in
-    let pushed = c.push_mdat_head.ensures [] all (moov_pushed _ all (c.push_ftyp.ensures _ all left)) in
-    let items : c.push_mdat_head.new.out.items ≡ text = sym (append-nil c.push_mdat_head.new.out.items) ∙ (pushed.items ∙ ap (λ (b : List ℕ). b ++ text) c.new-front.ensures.items) in
-    let file : c.push_mdat_head.new.out.items ++ payload chunks ≡ file_bytes record_ 0 = ap (λ (b : List ℕ). b ++ payload chunks) items ∙ file-for record_ place front in
-    let formed = c.parts_stand_for_movies.ensures.well_formed files movie c.tracks.ensures.whole in
-    let limits = c.parts_stand_for_movies.ensures.fits files movie c.tracks.ensures.whole hold c.tracks.ensures.fits in
-    let small = c.payload-payload.ensures.short in
-    let place_fits = front.fits in
+returns c = λ millis is.
+    let here = goal.at.returns c in
+    let place = c.ftyp_len.result + c.in_ok-layout.layout.moov + c.mdat_head_len-head.result in
     record {
-      file = record {
-        whole = file;
-        exact = subst (λ (b : List ℕ). present b ≡ Some record_) (sym file) (c.file_presents_movie.ensures.exact record_ 0 formed limits front.short);
-        same = subst (λ (b : List ℕ). Presents b record_) (sym file) (c.file_presents_movie.ensures.same record_ 0 formed limits front.short);
-      };
-      whole = omega (arith, paid, text_len, ap length items, ap length file, length-append c.push_mdat_head.new.out.items (payload chunks));
-      fits = omega (arith, place_fits, small);
-      short = unrefused record_ front.short;
+      order = is;
+      each = λ files hold. planned-for (laws here.After-deref-5) files c.args.movie.now millis c.args.plan c.deref-5.result.now c.moov_len-narrow.result c.mdat_head_len-head.result c.payload-payload.result
+          c.tracks-tracks.ensures.whole c.tracks-tracks.ensures.fits hold is (counted here.After-deref-5) c.in_ok-layout.layout c.in_ok-layout.ensures.laid place (omega (arith, c.ftyp_len.ensures))
+          c.in_ok-front.front.items c.in_ok-offsets.offsets.items (sym c.deref-8.ensures.value ∙ offsets here.After-deref-8)
+          (λ placing placed has long. c.in_ok-front.ensures.bytes files placing (placed-in-words files c.args.movie.now.tracks _ c.args.plan _ _ _ placing (c.deref-7.ensures.value ∙ c.plan.view_is) c.deref-8.ensures.value placed) has long);
     }

@@ -23,7 +23,7 @@ returns c =
     let heads = map head_of placing.chunks in
     let runs : HasLen c.stsc_len.result (stsc heads) = c.stsc_len.ensures ∙ ap capped (same-rows c.places_change_no_length.ensures _ _ (sym at.heads)) in
     let many = as-many _ _ at.heads in
-    let few = c.requires.chunks.few in
+    let few = c.requires.few in
     let places = c.chunk_offsets_len.ensures heads (omega (arith, many, few)) in
     let lens = table-lens (stsd c.deref.result.now) (stts kept.deltas) (ctts kept.offsets) (stss kept.syncs) (stsc heads) (stsz (map unsigned_abs kept.sizes)) (chunk_offsets c.args.wide heads) _ _ _ _ _ _ _
     c.stsd_len.ensures c.stts_len.ensures c.ctts_len.ensures c.stss_len.ensures runs c.stsz_len.ensures places in

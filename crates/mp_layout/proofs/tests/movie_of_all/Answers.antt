@@ -1,0 +1,11 @@
+use Rattle.std.proofs.Common.{sym, subst}
+use Rattle.mp_timeline.specs.Movie.{MovieHeadRecord}
+use Rattle.mp_movie.specs.Placed.{plain_scale}
+use Rattle.mp_movie.specs.WholeParts.{AreParts}
+use Rattle.mp_layout.proofs.TestTracks.{together}
+use Rattle.mp_layout.proofs.tests.movie_of_all.Goals as goal
+
+pub from_parts-requires-clause-whole : goal.from_parts-requires-clause-whole
+from_parts-requires-clause-whole c =
+    subst (λ (head : MovieHeadRecord). AreParts (record { scale = plain_scale; head = head; tracks = c.args.tracks.items })) (sym c.plain.ensures)
+    (together c.args.tracks.items c.requires.parts c.requires.apart c.plain_heads_fit.ensures.movie)
