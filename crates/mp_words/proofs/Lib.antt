@@ -2,4 +2,5 @@ pub mod LastPlaces
 pub mod Digits
 pub mod JoinedTexts
 pub mod LineSteps
+pub mod CommandsAreAsked
 pub mod JobsAreShort

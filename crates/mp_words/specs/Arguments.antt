@@ -3,8 +3,8 @@ use Rattle.std.specs.Prelude.{ℕ, ◌+◌, ◌&&◌, nat_le, Bool, true, false,
 use Rattle.std.specs.Bool.{then_some}
 use Rattle.std.specs.Str.{byte}
 use Rattle.mp_words.specs.declared.name.FileKind.{FileKind}
-use Rattle.mp_words.specs.declared.job.Choice.{Choice}
-use Rattle.mp_words.specs.declared.job.Choice.TheVariants.{All, Number, Video, Audio}
+use Rattle.track_ops.specs.declared.chosen.Choice.{Choice}
+use Rattle.track_ops.specs.declared.chosen.Choice.TheVariants.{All, Number, Video, Audio}
 use Rattle.mp_words.specs.declared.job.Rate.{Rate}
 use Rattle.mp_words.specs.declared.options.LineOption.{LineOption}
 use Rattle.mp_words.specs.declared.options.LineOption.TheVariants.{Add, Cat, Rem, Delay, SplitChunk, TrackScale, MovieScale, Lang, Enable, Disable}

@@ -1,7 +1,7 @@
 -- What a line asks for, as records of numbers and texts.
-use Rattle.std.specs.Prelude.{ℕ, ℤ, Bool, List, [], Option, string_bytes}
+use Rattle.std.specs.Prelude.{◌≤◌, ◌*◌, ℕ, ℤ, Bool, All, List, [], Option, Some, None, string_bytes}
 use Rattle.mp_frac.specs.declared.time.Frac.{Frac}
-use Rattle.mp_words.specs.declared.job.Choice.{Choice}
+use Rattle.track_ops.specs.declared.chosen.Choice.{Choice}
 use Rattle.mp_words.specs.declared.job.DumpKind.{DumpKind}
 use Rattle.mp_words.specs.declared.job.Rate.{Rate}
 use Rattle.mp_words.specs.declared.job.What.{What}
@@ -31,10 +31,29 @@ asked (MovieScale scale) = ScalesMovie scale
 asked (Lang number letters) = SetsLanguage number letters
 asked (Enabled number on) = Enables number on
 
+-- a rate is of some pictures in some seconds
+abbrev pub IsRate : Option Rate → Type 0
+IsRate None = Unit
+IsRate (Some rate) = (1 ≤ rate.num) × (1 ≤ rate.den)
+
+-- what a line can ask for: rates and scales aren't 0, letters are `a` to `z`
+abbrev pub IsAsked : Asked → Type 0
+IsAsked (Adds name choice rate) = IsRate rate
+IsAsked (ScalesTrack number scale) = 1 ≤ scale
+IsAsked (ScalesMovie scale) = 1 ≤ scale
+IsAsked (SetsLanguage number letters) = All (λ letter. (97 ≤ letter) × (letter ≤ 122)) letters
+IsAsked _ = Unit
+
 -- what an option asks for, and the option's number on the line, counted from 1
 pub record CommandRecord : Type 0 where
   pub place : ℕ
   pub what : Asked
+
+-- the option and its argument are among so many words
+pub record IsCommand (words : ℕ) (command : CommandRecord) : Type 0 where
+  pub number : 1 ≤ command.place
+  pub argument : 2 * command.place ≤ words
+  pub asked : IsAsked command.what
 
 -- the commands, the output's name and its option's number, and the window in milliseconds (0: one for all)
 pub record EditRecord : Type 0 where

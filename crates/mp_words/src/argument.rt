@@ -5,12 +5,13 @@ ghost use Rattle.mp_words.specs.Numbers.{positive_of};
 ghost use Rattle.mp_words.specs.Arguments.{choice_of, selected, rate_at, rated, added_from, letters_of, asked_by};
 ghost use Rattle.mp_words.specs.Marks.{first_place};
 
-use crate::job::{Choice, Rate, What};
+use crate::job::{Rate, What};
 use crate::name::{FileKind, is_mp4_name, kind_of};
 use crate::number::{milliseconds_of, positive_of, seconds_of};
 use crate::options::LineOption;
 use crate::text::{first_place, split_last};
 use std::alloc::{AllocError, Global};
+use track_ops::Choice;
 
 /// What the option asks for by its argument; `None` where the argument isn't as the option wants it.
 pub fn asked_by(

@@ -1,18 +1,7 @@
 // What a line asks for.
 use mp_frac::Frac;
 use std::marker::Model;
-
-/// The tracks of a file that are added.
-#[derive(Clone, Copy, Debug, PartialEq, Eq)]
-pub enum Choice {
-    All,
-    /// The track of that number.
-    Number(u32),
-    /// The tracks of handler `vide`.
-    Video,
-    /// The tracks of handler `soun`.
-    Audio,
-}
+use track_ops::Choice;
 
 /// So many pictures in so many seconds, both at least 1.
 #[derive(Clone, Copy, Debug, PartialEq, Eq)]

@@ -17,6 +17,6 @@ mod tests;
 mod text;
 
 pub use fault::{WordFail, WordKind};
-pub use job::{Choice, Command, DumpKind, Job, Rate, What};
+pub use job::{Command, DumpKind, Job, Rate, What};
 pub use line::read_words;
 pub use name::{FileKind, kind_of};

@@ -1,8 +1,8 @@
 // The words of a line, read from left to right.
-ghost use Rattle.std.specs.Prelude.{◌≡◌, ◌<◌, ◌≤◌, ◌*◌, ◌^◌, length, map, string_bytes, IfOk};
+ghost use Rattle.std.specs.Prelude.{◌≡◌, ◌<◌, ◌≤◌, ◌*◌, ◌^◌, length, map, string_bytes, All, IfOk};
 ghost use Rattle.std.specs.List.{list_any};
 ghost use Rattle.mp_words.specs.Answers.{GivesJob, GivesLine, job_record};
-ghost use Rattle.mp_words.specs.Jobs.{commands_of};
+ghost use Rattle.mp_words.specs.Jobs.{IsCommand, commands_of};
 ghost use Rattle.mp_words.specs.Line.{job, nothing, options_from, reads};
 
 use crate::argument::asked_by;
@@ -54,6 +54,8 @@ pub fn read_words(alloc: Global, words: &[String]) -> Result<Job, WordFail>
     ensures job { GivesJob result (job (map string_bytes words.now)) }
     // A job has at most one command for two words.
     ensures few { IfOk result (λ job. 2 * length (commands_of (job_record job)) ≤ length words.now) }
+    // Each command is of an option and its argument.
+    ensures each { IfOk result (λ job. All (IsCommand (length words.now)) (commands_of (job_record job))) }
 {
     if words.is_empty() {
         return Err(fault(0, WordKind::Empty));

@@ -3,11 +3,12 @@ ghost use Rattle.std.specs.Prelude.{◌<◌, length, IfOk, vec_len};
 
 mod lines;
 
-use crate::{Choice, Command, DumpKind, FileKind, Job, What, WordFail, kind_of, read_words};
+use crate::{Command, DumpKind, FileKind, Job, What, WordFail, kind_of, read_words};
 use lines::LINES;
 use std::alloc::Global;
 use std::fmt;
 use std::test::Fail;
+use track_ops::Choice;
 
 impl fmt::Display for Job {
     fn fmt<W: fmt::Write>(&self, f: &mut fmt::Formatter<W>) -> fmt::Result {
@@ -45,7 +46,13 @@ impl fmt::Display for What {
     fn fmt<W: fmt::Write>(&self, f: &mut fmt::Formatter<W>) -> fmt::Result {
         match self {
             What::Add { name, choice, rate } => {
-                write!(f, "add {name} {choice} ")?;
+                write!(f, "add {name} ")?;
+                match *choice {
+                    Choice::All => f.write_str("all ")?,
+                    Choice::Number(number) => write!(f, "#{number} ")?,
+                    Choice::Video => f.write_str("video ")?,
+                    Choice::Audio => f.write_str("audio ")?,
+                }
                 match rate {
                     None => f.write_str("-"),
                     Some(rate) => {
@@ -70,17 +77,6 @@ impl fmt::Display for What {
             }
             What::Enabled { number, on: true } => write!(f, "enable {number}"),
             What::Enabled { number, on: false } => write!(f, "disable {number}"),
-        }
-    }
-}
-
-impl fmt::Display for Choice {
-    fn fmt<W: fmt::Write>(&self, f: &mut fmt::Formatter<W>) -> fmt::Result {
-        match *self {
-            Choice::All => f.write_str("all"),
-            Choice::Number(number) => write!(f, "#{number}"),
-            Choice::Video => f.write_str("video"),
-            Choice::Audio => f.write_str("audio"),
         }
     }
 }
