@@ -1,6 +1,9 @@
-pub mod OptionSteps
-pub mod Inputs
+pub mod ToldFiles
 pub mod Sounds
+pub mod Inputs
+pub mod NamesInTurn
+pub mod Folds
 pub mod Writes
 pub mod Outcomes
-pub mod Dumps
+pub mod Endings
+pub mod Jobs

@@ -1,113 +1,117 @@
--- What a job comes to once its input is read: a movie that is planned and written, or the refusal of the plan.
-use Rattle.std.proofs.Common.{◌≡◌, ◌==◌, ◌+◌, ℕ, false, List, [], ◌∷◌, length, map, Option, Some, None, option_map, IfSome, IfOk, Result, Ok, Err, refl, sym, subst, ap, ◌∙◌, sum_by}
+-- What an edit comes to once its commands are applied: a movie that is planned and written, or the refusal of the plan.
+use Rattle.std.proofs.Common.{◌≡◌, ◌==◌, ◌+◌, ◌<◌, ℕ, true, false, nat_eq, List, [], ◌∷◌, length, map, Option, Some, None, option_map, IfSome, IfOk, IsSomeAnd, Result, Ok, Err, refl, sym, subst, ap, ◌∙◌, sum_by}
 use Rattle.std.proofs.lemmas.List.{length-map}
 use Rattle.std.proofs.lemmas.List.FromFn.{length-map-range_with_len}
 use Rattle.std.proofs.lemmas.List.Sums.{sum_by-cons}
+use Rattle.mp_ports.specs.declared.code.Code.TheVariants.{EmptyMovie}
 use Rattle.mp_ports.specs.declared.fault.Bad.{Bad}
 use Rattle.mp_ports.specs.declared.fault.Fail.{Fail}
-use Rattle.mp_ports.specs.Folder.{FolderState, HeldFile, bytes_under}
+use Rattle.mp_ports.specs.Checks.{bad_at}
+use Rattle.mp_ports.specs.Folder.{FolderState, HeldFile}
+use Rattle.mp_pieces.specs.Copied.{IsFront, sizes_of}
 use Rattle.mp_timeline.specs.Movie.{TrackRecord, MovieRecord}
 use Rattle.mp_timeline.specs.Plain.{plain_movie_head}
 use Rattle.mp_movie.specs.Placed.{PlacedTrack, PlacedMovie, sample_count as placed_count}
 use Rattle.mp_movie.specs.StandsFor.{Hold, sample_at, samples_of, stands_for, track_for}
-use Rattle.adts_import.specs.Stream.{stream_movie}
 use Rattle.mp_layout.specs.Emitted.{AreTold}
 use Rattle.mp_layout.specs.File.{file_bytes, moov_fault}
 use Rattle.mp_layout.specs.Plan.{FilePlanRecord, IsFileOf, IsPlanOf, Plans}
-use Rattle.mp_layout.specs.Written.{IsOneChunk}
-use Rattle.mp4edit.specs.declared.input.InputFail.{InputFail}
-use Rattle.mp4edit.specs.declared.input.InputFail.TheVariants.{Missing}
+use Rattle.mp_words.specs.Jobs.{CommandRecord}
+use Rattle.mp4edit.specs.declared.stop.Stop.{Stop}
 use Rattle.mp4edit.specs.Line.{line, sample_count, wrote}
-use Rattle.mp4edit.specs.Outcome.{Outcome, Absent, Movie, Refusal, input_outcome, outcome, output_fault, output_outcome}
-use Rattle.mp4edit.specs.Reading.{GivesInput, IsOutcome, told_files}
-use Rattle.mp4edit.specs.Run.{HasWritten, HasWrittenFront}
-use Rattle.mp4edit.specs.Words.{ImportRecord}
-use Rattle.mp4edit.specs.Written.{LeavesFront, WritesWhole}
+use Rattle.mp4edit.specs.Outcome.{Outcome, Absent, Movie, Refusal, and_then, folded, no_movie, outcome, output_fault, written}
+use Rattle.mp4edit.specs.Reading.{AllTold, Gives, of_fail, named, told_files}
+use Rattle.mp4edit.specs.Run.{HasWritten, HasWrittenFront, edit_of}
+use Rattle.mp4edit.specs.Written.{LeavesFront, OutputRecord, PlansOutput, WritesWhole}
+use Rattle.mp4edit.proofs.ToldFiles.{held_is_told, same_sizes}
 
 -- what holds, holds of each value
 always : {A : Type 0} (option : Option A) (P : Type 0) → P → IfSome option (λ _. P)
 always None P p = tt
 always (Some x) P p = p
 
--- a movie of one chunk has a track
-has_track : (files : List (List ℕ)) (movie : PlacedMovie) → IsOneChunk movie → (length (map (track_for files) movie.tracks) == 0) ≡ false
-has_track files movie one = rw one.one_track refl
-
-planned_outcome : (command : ℕ) (movie : MovieRecord) → (length movie.tracks == 0) ≡ false → moov_fault movie 0 ≡ None → output_outcome command 0 (Movie movie) ≡ Movie movie
-planned_outcome command movie some short = rw (some, short) refl
-
-refused_outcome : (command : ℕ) (movie : MovieRecord) (bad : Bad) → (length movie.tracks == 0) ≡ false → moov_fault movie 0 ≡ Some bad
-    → output_outcome command 0 (Movie movie) ≡ Refusal (record bad { command = command })
-refused_outcome command movie bad some fault = rw (some, fault) refl
-
--- the outcome of a job by that of its input
-by_input : (job : ImportRecord) (files : List HeldFile) (input : Outcome) → job.window ≡ 0 → input_outcome stream_movie job.command (bytes_under job.input files) ≡ input → outcome job files ≡ output_outcome job.out_command 0 input
+by_commands : (commands : List CommandRecord) (output : OutputRecord) (files : List HeldFile) (made : Outcome) → folded files commands no_movie ≡ made
+    → outcome (edit_of commands output) files ≡ and_then made (written output.command output.window)
 unfolding outcome
-by_input job files input window is = rw (window, is) refl
+by_commands commands output files made is = ap (λ (o : Outcome). and_then o (written output.command output.window)) is
 
--- the input is missing or refused, and so is the job
-pub fails : (held : Option (List HeldFile)) (job : ImportRecord) (s : FolderState) (fail : InputFail) → job.window ≡ 0
-    → IfSome held (λ files. GivesInput {A = PlacedMovie} (λ movie. movie) (Err fail) s (input_outcome stream_movie job.command (bytes_under job.input files)) job.command)
-    → IfSome held (λ files. GivesInput {A = PlacedMovie × FilePlanRecord} (λ planned. planned.0) (Err fail) s (outcome job files) job.command)
-fails None job s fail window gives = tt
-fails (Some files) job s (InputFail.Bad bad) window gives = by_input job files (Refusal bad) window gives
-fails (Some files) job s Missing window gives = by_input job files (Absent job.command) window gives
-fails (Some files) job s InputFail.ReadFault window gives = tt
-fails (Some files) job s InputFail.NoMemory window gives = tt
+-- a movie without tracks can't be written
+pub no_tracks : (movie : PlacedMovie) (millis : ℕ) → length movie.tracks ≡ 0 → PlansOutput (Err (Fail.Bad (bad_at EmptyMovie 0))) movie millis
+no_tracks movie millis none = λ files hold. rw (length-map movie.tracks (track_for files), none) refl
 
--- a movie that can't be planned is refused under the option that writes it
-pub unplanned : (held : Option (List HeldFile)) (job : ImportRecord) (s : FolderState) (movie : PlacedMovie) (fail : Fail) (bad : Bad) (command : ℕ) → job.window ≡ 0 → job.out_command ≡ command → IsOneChunk movie → fail ≡ Fail.Bad bad
-    → ((files : List (List ℕ)) → Hold (map length files) movie → Plans (Err fail) (stands_for files movie))
-    → IfSome held (λ files. IsOutcome s movie (input_outcome stream_movie job.command (bytes_under job.input files)))
-    → IfSome held (λ files. outcome job files ≡ Refusal (record bad { command = command }))
-unplanned None job s movie fail bad command window out one is faults gives = tt
-unplanned (Some files) job s movie fail bad command window out one is faults gives =
-    by_input job files _ window gives.stands
-    ∙ (refused_outcome job.out_command (stands_for (told_files s) movie) bad (has_track (told_files s) movie one)
-    (subst (λ (f : Fail). Plans (Err f) (stands_for (told_files s) movie)) is (faults (told_files s) gives.told.hold))
-    ∙ ap (λ (c : ℕ). Refusal (record bad { command = c })) out)
+has_tracks : (files : List (List ℕ)) (movie : PlacedMovie) → (length movie.tracks == 0) ≡ false → (length (map (track_for files) movie.tracks) == 0) ≡ false
+has_tracks files movie some = rw (length-map movie.tracks (track_for files)) some
+
+-- one that has tracks, is planned or refused as its file is
+pub plans_output : (movie : PlacedMovie) (millis : ℕ) (planned : Result FilePlanRecord Fail) → (length movie.tracks == 0) ≡ false → Plans planned movie millis → PlansOutput planned movie millis
+plans_output movie millis (Ok plan) some plans = (some, plans)
+plans_output movie millis (Err (Fail.Bad bad)) some plans = λ files hold. rw (has_tracks files movie some, plans files hold) refl
+plans_output movie millis (Err Fail.NoMemory) some plans = tt
+
+-- the commands make no movie, and neither does the edit
+pub fold_stops : (held : Option (List HeldFile)) (commands : List CommandRecord) (output : OutputRecord) (s : FolderState) (stop : Stop)
+    → IfSome held (λ files. Gives {A = PlacedMovie} (λ movie. movie) (Err stop) s (folded files commands no_movie))
+    → IfSome held (λ files. Gives {A = PlacedMovie × FilePlanRecord} (λ planned. planned.0) (Err stop) s (outcome (edit_of commands output) files))
+fold_stops None commands output s stop gives = tt
+fold_stops (Some files) commands output s (Stop.Bad bad) gives = by_commands commands output files (Refusal bad) gives
+fold_stops (Some files) commands output s (Stop.Missing command) gives = by_commands commands output files (Absent command) gives
+fold_stops (Some files) commands output s Stop.ReadFault gives = tt
+fold_stops (Some files) commands output s Stop.NoMemory gives = tt
+
+-- a movie that can't be written is refused under the option that writes it
+pub output_stops : (held : Option (List HeldFile)) (commands : List CommandRecord) (output : OutputRecord) (s : FolderState) (movie : PlacedMovie) (fail : Fail)
+    → IfSome held (λ _. AllTold s) → Hold (sizes_of s) movie
+    → IfSome held (λ files. Gives {A = PlacedMovie} (λ movie. movie) (Ok movie) s (folded files commands no_movie)) → PlansOutput (Err fail) movie output.window
+    → IfSome held (λ files. Gives {A = PlacedMovie × FilePlanRecord} (λ planned. planned.0) (Err (of_fail output.command fail)) s (outcome (edit_of commands output) files))
+output_stops None commands output s movie fail told held gives plans = tt
+output_stops (Some files) commands output s movie (Fail.Bad bad) told held gives plans =
+    by_commands commands output files _ gives ∙ rw (plans (told_files s) (subst (λ (sizes : List ℕ). Hold sizes movie) (same_sizes s told) held)) refl
+output_stops (Some files) commands output s movie Fail.NoMemory told held gives plans = tt
+
+no_fault : (movie : MovieRecord) (millis command : ℕ) → (length movie.tracks == 0) ≡ false → moov_fault movie millis ≡ None → written command millis movie ≡ Movie movie
+no_fault movie millis command some short = rw (some, short) refl
 
 -- a movie that is planned is the outcome
-pub planned : (held : Option (List HeldFile)) (job : ImportRecord) (s : FolderState) (movie : PlacedMovie) (plan : FilePlanRecord) → job.window ≡ 0 → IsOneChunk movie → IsPlanOf plan movie
-    → IfSome held (λ files. IsOutcome s movie (input_outcome stream_movie job.command (bytes_under job.input files)))
-    → IfSome held (λ files. IsOutcome s movie (outcome job files))
-planned None job s movie plan window one plans gives = tt
-planned (Some files) job s movie plan window one plans gives = record {
-  stands = by_input job files _ window gives.stands
-      ∙ planned_outcome job.out_command (stands_for (told_files s) movie) (has_track (told_files s) movie one) (plans (told_files s) gives.told.hold).short;
-  told = gives.told;
-}
+pub output_plans : (held : Option (List HeldFile)) (commands : List CommandRecord) (output : OutputRecord) (s : FolderState) (movie : PlacedMovie) (plan : FilePlanRecord)
+    → IfSome held (λ _. AllTold s) → Hold (sizes_of s) movie
+    → IfSome held (λ files. Gives {A = PlacedMovie} (λ movie. movie) (Ok movie) s (folded files commands no_movie)) → PlansOutput (Ok plan) movie output.window
+    → IfSome held (λ files. Gives {A = PlacedMovie × FilePlanRecord} (λ planned. planned.0) (Ok (movie, plan)) s (outcome (edit_of commands output) files))
+output_plans None commands output s movie plan told held gives plans = tt
+output_plans (Some files) commands output s movie plan told held gives plans =
+    by_commands commands output files _ gives
+    ∙ no_fault (stands_for (told_files s) movie) output.window output.command (has_tracks (told_files s) movie plans.0)
+    (plans.1.each (told_files s) (subst (λ (sizes : List ℕ). Hold sizes movie) (same_sizes s told) held)).short
 
 -- what holds of the movie, holds of the outcome
-pub of_outcome : (held : Option (List HeldFile)) (job : ImportRecord) (s : FolderState) (movie : PlacedMovie) (P : Outcome → Type 0)
-    → IfSome held (λ files. IsOutcome s movie (outcome job files)) → (AreTold s movie (told_files s) → P (Movie (stands_for (told_files s) movie))) → IfSome held (λ files. P (outcome job files))
-of_outcome None job s movie P is p = tt
-of_outcome (Some files) job s movie P is p = subst P (sym is.stands) (p is.told)
+pub of_outcome : (held : Option (List HeldFile)) (s : FolderState) (movie : PlacedMovie) (outcome_by : List HeldFile → Outcome) (P : Outcome → Type 0)
+    → IfSome held (λ files. outcome_by files ≡ Movie (stands_for (told_files s) movie)) → IfSome held (λ _. AllTold s) → Hold (sizes_of s) movie
+    → (AreTold s movie (told_files s) → P (Movie (stands_for (told_files s) movie))) → IfSome held (λ files. P (outcome_by files))
+of_outcome None s movie outcome_by P is told hold p = tt
+of_outcome (Some files) s movie outcome_by P is told hold p = subst P (sym is) (p (held_is_told s movie told hold))
 
 -- the bytes that stand written are its file
-pub written_is_told : (s t : FolderState) (movie : PlacedMovie) (plan : FilePlanRecord) (name : List ℕ) (window : ℕ) → window ≡ 0 → IsPlanOf plan movie
-    → AreTold s movie (told_files s) → WritesWhole s t name movie → HasWritten (Movie (stands_for (told_files s) movie)) window t
-written_is_told s t movie plan name window none plans told writes =
+pub written_is_told : (old s t : FolderState) (movie : PlacedMovie) (plan : FilePlanRecord) (name : List ℕ) (window : ℕ) → s.written ≡ old.written → IsPlanOf plan movie window
+    → AreTold s movie (told_files s) → WritesWhole s t name movie window → HasWritten (Movie (stands_for (told_files s) movie)) window old t
+written_is_told old s t movie plan name window same plans told writes =
     let m = stands_for (told_files s) movie in
-    let file = (plans (told_files s) told.hold).file in
-    let whole : IsFileOf m 0 writes.bytes = subst (λ (b : List ℕ). IsFileOf m 0 b) (file.whole ∙ sym (writes.told (told_files s) told)) file in
-    subst (λ (w : ℕ). IfSome t.written (IsFileOf m w)) (sym none)
-    (subst (λ (b : Option (List ℕ)). IfSome b (IsFileOf m 0)) (sym (ap (λ (x : FolderState). x.written) writes.state)) (of_old s.written m writes.bytes whole))
+    let file = (plans.each (told_files s) told.hold).file in
+    let whole : IsFileOf m window writes.bytes = subst (λ (b : List ℕ). IsFileOf m window b) (file.whole ∙ sym (writes.told (told_files s) told)) file in
+    of_old old.written t.written m writes.bytes (ap (λ (x : FolderState). x.written) writes.state ∙ ap (λ (w : Option (List ℕ)). option_map (λ (_ : List ℕ). writes.bytes) w) same) whole
   where
-    of_old : (old : Option (List ℕ)) (m : MovieRecord) (bytes : List ℕ) → IsFileOf m 0 bytes → IfSome (option_map (λ (_ : List ℕ). bytes) old) (IsFileOf m 0)
-    of_old None m bytes whole = tt
-    of_old (Some _) m bytes whole = whole
+    of_old : (old now : Option (List ℕ)) (m : MovieRecord) (bytes : List ℕ) → now ≡ option_map (λ (_ : List ℕ). bytes) old → IsFileOf m window bytes → IfSome old (λ _. IsSomeAnd now (IsFileOf m window))
+    of_old None now m bytes is whole = tt
+    of_old (Some _) now m bytes is whole = subst (λ (w : Option (List ℕ)). IsSomeAnd w (IsFileOf m window)) (sym is) whole
 
 -- or a front of it
-pub front_is_told : (s t : FolderState) (movie : PlacedMovie) (name : List ℕ) (window : ℕ) → window ≡ 0
-    → AreTold s movie (told_files s) → LeavesFront s t name movie → HasWrittenFront (Movie (stands_for (told_files s) movie)) window t
-front_is_told s t movie name window none told left =
-    subst (λ (w : ℕ). HasWrittenFront (Movie (stands_for (told_files s) movie)) w t) (sym none) (left.front (told_files s) told)
+pub front_is_told : (old s t : FolderState) (movie : PlacedMovie) (name : List ℕ) (window : ℕ) → s.written ≡ old.written
+    → AreTold s movie (told_files s) → LeavesFront s t name movie window → HasWrittenFront (Movie (stands_for (told_files s) movie)) window old t
+front_is_told old s t movie name window same told left =
+    subst (λ (w : Option (List ℕ)). IfSome t.output (λ _. IfSome w (λ _. IsSomeAnd t.written (λ b. IsFront b (file_bytes (stands_for (told_files s) movie) window))))) same (left.front (told_files s) told)
 
 -- the same, where something was created
-pub created_front : (s t : FolderState) (movie : PlacedMovie) (name : List ℕ) (window : ℕ) → window ≡ 0
-    → AreTold s movie (told_files s) → LeavesFront s t name movie → IfSome t.output (λ _. HasWrittenFront (Movie (stands_for (told_files s) movie)) window t)
-created_front s t movie name window none told left = always t.output _ (front_is_told s t movie name window none told left)
+pub created_front : (old s t : FolderState) (movie : PlacedMovie) (name : List ℕ) (window : ℕ) → s.written ≡ old.written
+    → AreTold s movie (told_files s) → LeavesFront s t name movie window → IfSome t.output (λ _. HasWrittenFront (Movie (stands_for (told_files s) movie)) window old t)
+created_front old s t movie name window same told left = always t.output _ (front_is_told old s t movie name window same told left)
 
 -- a track has as many samples as durations
 samples_len : (files : List (List ℕ)) (track : PlacedTrack) → length (samples_of files track) ≡ length track.deltas
@@ -122,8 +126,8 @@ same_count files (track ∷ tracks) =
     ∙ (rw (samples_len files track, same_count files tracks) (sym (sum_by-cons (λ (t : PlacedTrack). length t.deltas) track tracks)))
 
 -- the line of the movie
-pub line_is : (files : List (List ℕ)) (movie : PlacedMovie) (plan : FilePlanRecord) (name : List ℕ) (window : ℕ) → window ≡ 0
-    → Hold (map length files) movie → IsPlanOf plan movie
+pub line_is : (files : List (List ℕ)) (movie : PlacedMovie) (plan : FilePlanRecord) (name : List ℕ) (window : ℕ)
+    → Hold (map length files) movie → IsPlanOf plan movie window
     → line name (stands_for files movie) window ≡ wrote name (length movie.tracks) (placed_count movie.tracks) plan.length
-line_is files movie plan name window none hold plans =
-    rw (none, length-map movie.tracks (track_for files), same_count files movie.tracks, sym (plans files hold).whole) refl
+line_is files movie plan name window hold plans =
+    rw (length-map movie.tracks (track_for files), same_count files movie.tracks, sym (plans.each files hold).whole) refl

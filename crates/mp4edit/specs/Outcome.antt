@@ -1,14 +1,23 @@
--- What a job comes to, given the files that are held.
+-- What a job comes to, given the files that are held: its options, applied in their order.
 use Rattle.std.specs.Prelude.{ℕ, List, [], ◌∷◌, ◌==◌, length, Option, Some, None, Result, Ok, Err}
-use Rattle.mp_ports.specs.declared.fault.Bad.{Bad}
+use Rattle.mp_ports.specs.declared.code.Code.{Code}
 use Rattle.mp_ports.specs.declared.code.Code.TheVariants.{EmptyMovie}
-use Rattle.mp_ports.specs.Checks.{fault_at, first_code, first_some, unless}
+use Rattle.mp_ports.specs.declared.fault.Bad.{Bad}
+use Rattle.mp_ports.specs.Checks.{fault_at, first_code, first_some, placed, unless}
 use Rattle.mp_ports.specs.Folder.{HeldFile, bytes_under}
 use Rattle.mp_timeline.specs.Movie.{MovieRecord}
+use Rattle.mp_timeline.specs.Plain.{plain_movie_head}
+use Rattle.mp_movie.specs.Placed.{plain_scale}
 use Rattle.mp_movie.specs.Present.{reading}
 use Rattle.adts_import.specs.Stream.{stream_movie}
+use Rattle.track_ops.specs.declared.chosen.Choice.{Choice}
+use Rattle.track_ops.specs.Adding.{add}
+use Rattle.track_ops.specs.Tracks.{remove, set_enabled, set_language}
 use Rattle.mp_layout.specs.File.{moov_fault}
-use Rattle.mp4edit.specs.Words.{ImportRecord}
+use Rattle.mp_words.specs.declared.name.FileKind.{FileKind}
+use Rattle.mp_words.specs.declared.name.FileKind.TheVariants.{Adts}
+use Rattle.mp_words.specs.Jobs.{Asked, Adds, Removes, SetsLanguage, Enables, CommandRecord, EditRecord}
+use Rattle.mp_words.specs.Names.{kind_of}
 
 -- a movie to be written, a refusal, or an option whose file is missing
 pub data Outcome : Type 0 where
@@ -16,33 +25,71 @@ pub data Outcome : Type 0 where
   Refusal : Bad → Outcome
   Absent : ℕ → Outcome
 
--- the movie of an option's input, or its refusal under that option's number
+-- what is made of the movie, if the outcome is one
+abbrev pub and_then : Outcome → (MovieRecord → Outcome) → Outcome
+and_then (Movie movie) next = next movie
+and_then (Refusal bad) next = Refusal bad
+and_then (Absent command) next = Absent command
+
+-- a movie, or its refusal under that option's number
 abbrev pub outcome_of : ℕ → Result MovieRecord Bad → Outcome
 outcome_of command (Ok movie) = Movie movie
 outcome_of command (Err bad) = Refusal (record bad { command = command })
 
--- what the option's file comes to by what its bytes are read as, where one of its name is held
-abbrev pub input_outcome : (List ℕ → Result MovieRecord Bad) → ℕ → Option (List ℕ) → Outcome
-input_outcome read command None = Absent command
-input_outcome read command (Some bytes) = outcome_of command (read bytes)
+-- the movie of a file of that kind
+abbrev pub read_as : Option FileKind → List ℕ → Result MovieRecord Bad
+read_as (Some Adts) bytes = stream_movie bytes
+read_as _ bytes = reading bytes
+
+-- what an option's file comes to, where one of its name is held
+abbrev pub input_outcome : Option FileKind → ℕ → Option (List ℕ) → Outcome
+input_outcome kind command None = Absent command
+input_outcome kind command (Some bytes) = outcome_of command (read_as kind bytes)
+
+-- the file of that name
+abbrev pub input : List HeldFile → ℕ → List ℕ → Outcome
+input files command name = input_outcome (kind_of name) command (bytes_under name files)
+
+-- what the option's command makes of the movie
+abbrev pub applied : ℕ → Result MovieRecord Code → Outcome
+applied command made = outcome_of command (placed 0 made)
+
+-- the chosen tracks of the file of that name are added
+abbrev pub add_outcome : List HeldFile → ℕ → List ℕ → Choice → MovieRecord → Outcome
+add_outcome files command name choice movie = and_then (input files command name) (λ other. applied command (add choice other movie))
+
+-- an option: its file is read, and then its command is applied. No job that is built has another one than these
+abbrev pub step : List HeldFile → ℕ → Asked → MovieRecord → Outcome
+step files command (Adds name choice rate) movie = add_outcome files command name choice movie
+step files command (Removes number) movie = applied command (remove number movie)
+step files command (SetsLanguage number letters) movie = applied command (set_language number letters movie)
+step files command (Enables number on) movie = applied command (set_enabled number on movie)
+step files command _ movie = Movie movie
+
+-- the options, one after another
+abbrev pub folded : List HeldFile → List CommandRecord → MovieRecord → Outcome
+folded files [] movie = Movie movie
+folded files (command ∷ commands) movie = and_then (step files command.place command.what movie) (folded files commands)
+
+-- the movie before the first option: no tracks, a plain head, milliseconds
+abbrev pub no_movie : MovieRecord
+no_movie = record { scale = plain_scale; head = plain_movie_head; tracks = [] }
 
 -- why a movie can't be written: it has no track, or its `moov` would be too long
 abbrev pub output_fault : ℕ → MovieRecord → Option Bad
 output_fault window movie = first_some (fault_at 0 (first_code ((length movie.tracks == 0, EmptyMovie) ∷ [])) ∷ moov_fault movie window ∷ [])
 
 -- a movie that can't be written is refused under the number of the option that writes it
-abbrev pub output_outcome : ℕ → ℕ → Outcome → Outcome
-output_outcome command window (Movie movie) = outcome_of command (unless (output_fault window movie) movie)
-output_outcome command window (Refusal bad) = Refusal bad
-output_outcome command window (Absent input) = Absent input
+abbrev pub written : ℕ → ℕ → MovieRecord → Outcome
+written command window movie = outcome_of command (unless (output_fault window movie) movie)
 
--- what an import comes to
-unfoldable pub outcome : ImportRecord → List HeldFile → Outcome
-outcome job files = output_outcome job.out_command job.window (input_outcome stream_movie job.command (bytes_under job.input files))
+-- what an edit comes to
+unfoldable pub outcome : EditRecord → List HeldFile → Outcome
+outcome edit files = and_then (folded files edit.commands no_movie) (written edit.out_command edit.window)
 
 -- what a dump comes to: what its file presents, as the input of the line's one option
 abbrev pub dump_outcome : List ℕ → List HeldFile → Outcome
-dump_outcome name files = input_outcome reading 1 (bytes_under name files)
+dump_outcome name files = input files 1 name
 
 -- it is a movie, of which this holds
 abbrev pub IsMovieAnd : Outcome → (MovieRecord → Type 0) → Type 0

@@ -1,18 +1,20 @@
 -- What a run may have left behind, at each of its endings.
-use Rattle.std.specs.Prelude.{◌≡◌, ◌≢◌, ◌⊎◌, ℕ, true, false, List, [], ◌∷◌, Option, Some, None, IfSome, IfNone, IsSome, Result, Err, IsOk}
+use Rattle.std.specs.Prelude.{◌≡◌, ◌≢◌, ◌⊎◌, ℕ, true, false, List, length, Some, None, IfSome, IfNone, IsSomeAnd, Result, Err, IsOk}
 use Rattle.mp_ports.specs.Count.{Rose}
-use Rattle.mp_ports.specs.Folder.{FolderState, HeldFile, OpenedFile, bytes_under}
+use Rattle.mp_ports.specs.Folder.{FolderState}
 use Rattle.mp_ports.specs.Report.{ReportState, Says, FailsToSay}
-use Rattle.mp_pieces.specs.Copied.{IsFront}
 use Rattle.mp_layout.specs.File.{file_bytes}
 use Rattle.mp_layout.specs.Plan.{IsFileOf}
 use Rattle.mp4edit.specs.declared.ending.Ending.{Ending}
 use Rattle.mp4edit.specs.declared.ending.Ending.TheVariants.{Done, Words, Refused, NoFile, ReadFault, WriteFault, ReportFault, NoMemory}
 use Rattle.mp_timeline.specs.Movie.{MovieRecord}
+use Rattle.mp_words.specs.declared.job.DumpKind.{DumpKind}
 use Rattle.mp_words.specs.Line.{WordFault}
-use Rattle.mp4edit.specs.Words.{DumpRecord, ImportRecord, JobRecord}
+use Rattle.mp_words.specs.Jobs.{CommandRecord, EditRecord, JobRecord}
 use Rattle.mp4edit.specs.Outcome.{Outcome, Movie, Refusal, Absent, IsMovieAnd, dump_outcome, outcome}
 use Rattle.mp4edit.specs.Line.{line, text_of}
+use Rattle.mp4edit.specs.Written.{IsToldFront, OutputRecord}
+use Rattle.mp4edit.specs.Names.{OpensAll, OpensFront, Wanted, held_name, reads}
 
 -- each fault has its cause: of the counts only the one of that kind rose, and the files held are the same
 pub record HasCauses (ending : Ending) (old new : FolderState) (before after : ReportState) : Type 0 where
@@ -44,12 +46,6 @@ IsOfJob _ = Unit
 abbrev pub IsUntouched : FolderState → FolderState → ReportState → ReportState → Type 0
 IsUntouched old new before after = (new ≡ old) × (after ≡ before)
 
--- the files that were opened: none, or the input, which is held where the folder tells
-abbrev pub AreInputs : List ℕ → Option (List HeldFile) → List OpenedFile → Type 0
-AreInputs name held [] = Unit
-AreInputs name held (file ∷ []) = (file.name ≡ name) × IfSome held (λ files. IsSome (bytes_under name files))
-AreInputs name held (file ∷ more ∷ rest) = ⊥
-
 -- nothing was created, and nothing written
 abbrev pub CreatesNothing : FolderState → FolderState → Type 0
 CreatesNothing old new = (new.output ≡ None) × (new.written ≡ old.written)
@@ -74,24 +70,24 @@ SaysNothing Done before after = Unit
 SaysNothing ReportFault before after = Unit
 SaysNothing _ before after = after.said ≡ before.said
 
--- the written bytes, where the folder tells, are the whole file of the outcome's movie, which presents that movie
-abbrev pub HasWritten : Outcome → ℕ → FolderState → Type 0
-HasWritten outcome window new = IsMovieAnd outcome (λ movie. IfSome new.written (IsFileOf movie window))
+-- where the folder tells what is written, it is the whole file of the outcome's movie, which presents that movie
+abbrev pub HasWritten : Outcome → ℕ → FolderState → FolderState → Type 0
+HasWritten outcome window old new = IsMovieAnd outcome (λ movie. IfSome old.written (λ _. IsSomeAnd new.written (IsFileOf movie window)))
 
 -- where a file was created, they are a front of it
-abbrev pub HasWrittenFront : Outcome → ℕ → FolderState → Type 0
-HasWrittenFront outcome window new =
-    IsMovieAnd outcome (λ movie. IfSome new.output (λ _. IfSome new.written (λ bytes. IsFront bytes (file_bytes movie window))))
+abbrev pub HasWrittenFront : Outcome → ℕ → FolderState → FolderState → Type 0
+HasWrittenFront outcome window old new =
+    IsMovieAnd outcome (λ movie. IfSome new.output (λ _. IsToldFront old new (file_bytes movie window)))
 
 -- what an ending says of the job's outcome, and of the bytes that stand written
-abbrev pub Tells : Ending → Outcome → ℕ → FolderState → Type 0
-Tells Done outcome window new = HasWritten outcome window new
-Tells ReportFault outcome window new = HasWritten outcome window new
-Tells ReadFault outcome window new = IfSome new.output (λ _. HasWrittenFront outcome window new)
-Tells WriteFault outcome window new = HasWrittenFront outcome window new
-Tells (Refused bad) outcome window new = outcome ≡ Refusal bad
-Tells (NoFile command) outcome window new = outcome ≡ Absent command
-Tells _ outcome window new = Unit
+abbrev pub Tells : Ending → Outcome → ℕ → FolderState → FolderState → Type 0
+Tells Done outcome window old new = HasWritten outcome window old new
+Tells ReportFault outcome window old new = HasWritten outcome window old new
+Tells ReadFault outcome window old new = IfSome new.output (λ _. HasWrittenFront outcome window old new)
+Tells WriteFault outcome window old new = HasWrittenFront outcome window old new
+Tells (Refused bad) outcome window old new = outcome ≡ Refusal bad
+Tells (NoFile command) outcome window old new = outcome ≡ Absent command
+Tells _ outcome window old new = Unit
 
 -- what was said: the text of the outcome's movie at `Done`, a front of it at `ReportFault`
 abbrev pub SaysText : Ending → Outcome → (MovieRecord → List ℕ) → ReportState → ReportState → Type 0
@@ -110,13 +106,22 @@ Completes ending (Movie movie) old new before after =
 Completes ending (Refusal bad) old new before after = ¬ Rose old.read_faults new.read_faults → EndsAt ending (Refused bad)
 Completes ending (Absent command) old new before after = ¬ Rose old.read_faults new.read_faults → EndsAt ending (NoFile command)
 
--- what a job that imports a file and writes it leaves behind, opens, and says of its outcome where the folder tells
-pub record EndsImport (ending : Ending) (job : ImportRecord) (old new : FolderState) (before after : ReportState) : Type 0 where
-  pub inputs : AreInputs job.input old.held new.opened
-  pub left : Leaves ending job.out old new
-  pub told : IfSome old.held (λ files. Tells ending (outcome job files) job.window new)
-  pub said : IfSome old.held (λ files. SaysText ending (outcome job files) (λ movie. line job.out movie job.window) before after)
-  pub complete : IfSome old.held (λ files. Completes ending (outcome job files) old new before after)
+-- of the held files that are wanted a front was opened, in order, and at `Done` all
+pub record OpensInputs (ending : Ending) (wanted : Wanted) (most : ℕ) (old new : FolderState) : Type 0 where
+  pub front : OpensFront wanted most old new
+  pub all : ending ≡ Done → OpensAll wanted most old new
+
+-- the edit of these commands and this output
+abbrev pub edit_of : List CommandRecord → OutputRecord → EditRecord
+edit_of commands output = record { commands = commands; out = output.name; out_command = output.command; window = output.window }
+
+-- what a job that writes a file opens, creates and says, by its outcome where the folder tells
+pub record EndsEdit (ending : Ending) (edit : EditRecord) (old new : FolderState) (before after : ReportState) : Type 0 where
+  pub inputs : OpensInputs ending (reads edit.commands) (length edit.commands) old new
+  pub left : Leaves ending edit.out old new
+  pub told : IfSome old.held (λ files. Tells ending (outcome edit files) edit.window old new)
+  pub said : IfSome old.held (λ files. SaysText ending (outcome edit files) (λ movie. line edit.out movie edit.window) before after)
+  pub complete : IfSome old.held (λ files. Completes ending (outcome edit files) old new before after)
 
 -- a refusal, or a file that is missing, is the outcome
 abbrev pub TellsFault : Ending → Outcome → Type 0
@@ -124,10 +129,16 @@ TellsFault (Refused bad) outcome = outcome ≡ Refusal bad
 TellsFault (NoFile command) outcome = outcome ≡ Absent command
 TellsFault _ outcome = Unit
 
--- and a job that tells of a file: it creates nothing, and says the text of the file's movie
-pub record EndsDump (ending : Ending) (job : DumpRecord) (old new : FolderState) (before after : ReportState) : Type 0 where
-  pub inputs : AreInputs job.name old.held new.opened
+-- it is no failed write
+abbrev pub IsNoWriteFault : Ending → Type 0
+IsNoWriteFault WriteFault = ⊥
+IsNoWriteFault _ = Unit
+
+-- what a job that tells of a file opens and says: it creates nothing, and no write of it can fail
+pub record EndsDump (ending : Ending) (kind : DumpKind) (name : List ℕ) (old new : FolderState) (before after : ReportState) : Type 0 where
+  pub inputs : OpensInputs ending (held_name name) 1 old new
+  pub unwritten : IsNoWriteFault ending
   pub left : CreatesNothing old new
-  pub told : IfSome old.held (λ files. TellsFault ending (dump_outcome job.name files))
-  pub said : IfSome old.held (λ files. SaysText ending (dump_outcome job.name files) (text_of job.kind) before after)
-  pub complete : IfSome old.held (λ files. Completes ending (dump_outcome job.name files) old new before after)
+  pub told : IfSome old.held (λ files. TellsFault ending (dump_outcome name files))
+  pub said : IfSome old.held (λ files. SaysText ending (dump_outcome name files) (text_of kind) before after)
+  pub complete : IfSome old.held (λ files. Completes ending (dump_outcome name files) old new before after)

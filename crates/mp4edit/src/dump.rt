@@ -3,22 +3,22 @@ ghost use Rattle.std.specs.Prelude.{◌≡◌, [], None, ℕ, List, length, map,
 ghost use Rattle.mp_movie.specs.StandsFor.{Hold, stands_for};
 ghost use Rattle.mp4edit.specs.Outcome.{dump_outcome};
 ghost use Rattle.mp4edit.specs.Line.{text_of};
-ghost use Rattle.mp4edit.specs.Reading.{GivesInput, ReadsInput};
-ghost use Rattle.mp4edit.specs.Run.{HasCauses, RaisesMisses, IsOfJob, AreInputs, CreatesNothing, SaysNothing, TellsFault, SaysText, Completes};
+ghost use Rattle.mp4edit.specs.Names.{held_name};
+ghost use Rattle.mp4edit.specs.Run.{HasCauses, RaisesMisses, IsOfJob, OpensInputs, IsNoWriteFault, CreatesNothing, SaysNothing, TellsFault, SaysText, Completes};
 
 use crate::ending::Ending;
-use crate::input::{InputFail, read_file};
-use crate::words::DumpJob;
+use crate::input::read_input;
 use mp_dump::{info_text, timeline_json, timeline_text};
 use mp_movie::Movie;
 use mp_ports::{Folder, NoMemory, Report};
 use mp_words::DumpKind;
 use std::alloc::Global;
 
-/// Says what the MP4 file of a job presents.
+/// Says what the MP4 file of that name presents.
 pub fn tell_file<F: Folder, R: Report>(
     alloc: Global,
-    job: &DumpJob,
+    kind: DumpKind,
+    name: &str,
     folder: &mut F,
     report: &mut R,
 ) -> Ending
@@ -28,42 +28,28 @@ pub fn tell_file<F: Folder, R: Report>(
         (R.state report.old) (R.state report.new) }
     ensures misses { RaisesMisses result (F.state folder.old) (F.state folder.new) }
     ensures job { IsOfJob result }
-    ensures inputs { AreInputs job.now.name (F.state folder.old).held (F.state folder.new).opened }
+    ensures inputs { OpensInputs result (held_name name.now) 1 (F.state folder.old) (F.state folder.new) }
+    ensures unwritten { IsNoWriteFault result }
     ensures left { CreatesNothing (F.state folder.old) (F.state folder.new) }
     ensures quiet { SaysNothing result (R.state report.old) (R.state report.new) }
-    ensures told { IfSome (F.state folder.old).held (λ files.
-        TellsFault result (dump_outcome job.now.name files)) }
+    ensures told { IfSome (F.state folder.old).held (λ files. TellsFault result (dump_outcome name.now files)) }
     ensures said { IfSome (F.state folder.old).held (λ files.
-        SaysText result (dump_outcome job.now.name files) (text_of job.now.kind)
-        (R.state report.old) (R.state report.new)) }
+        SaysText result (dump_outcome name.now files) (text_of kind) (R.state report.old) (R.state report.new)) }
     ensures complete { IfSome (F.state folder.old).held (λ files.
-        Completes result (dump_outcome job.now.name files) (F.state folder.old) (F.state folder.new)
+        Completes result (dump_outcome name.now files) (F.state folder.old) (F.state folder.new)
         (R.state report.old) (R.state report.new)) }
 {
-    let movie = match read_dump(alloc, folder, job) {
+    let movie = match read_input(alloc, folder, name, 1) {
         Ok(movie) => movie,
-        Err(InputFail::Missing) => return Ending::NoFile { command: 1 },
-        Err(InputFail::Bad(bad)) => return Ending::Refused(bad),
-        Err(InputFail::ReadFault) => return Ending::ReadFault,
-        Err(InputFail::NoMemory) => return Ending::NoMemory,
+        Err(stop) => return stop.ending(),
     };
-    let Ok(text) = text_of(alloc, job.kind, &movie) else {
+    let Ok(text) = text_of(alloc, kind, &movie) else {
         return Ending::NoMemory;
     };
     if report.say(&text).is_err() {
         return Ending::ReportFault;
     }
     Ending::Done
-}
-
-/// The movie that the job's file presents.
-fn read_dump<F: Folder>(alloc: Global, folder: &mut F, job: &DumpJob) -> Result<Movie, InputFail>
-    requires { (F.state folder.old).opened ≡ [] }
-    ensures movie { IfSome (F.state folder.old).held (λ files.
-        GivesInput (λ movie. movie) result (F.state folder.new) (dump_outcome job.now.name files) 1) }
-    ensures state { ReadsInput result job.now.name (F.state folder.old) (F.state folder.new) }
-{
-    read_file(alloc, folder, &job.name, 1)
 }
 
 /// What a dump of that kind says of a movie.

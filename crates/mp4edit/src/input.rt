@@ -1,132 +1,66 @@
-// The movie of a job's input, opened and imported.
-ghost use Rattle.std.specs.Prelude.{◌≡◌, [], IfOk, IfErr, IfSome};
-ghost use Rattle.mp_ports.specs.Folder.{Opens, bytes_under};
-ghost use Rattle.mp_movie.specs.Present.{reading};
-ghost use Rattle.adts_import.specs.Stream.{stream_movie};
-ghost use Rattle.mp_layout.specs.Plan.{IsPlanOf};
-ghost use Rattle.mp4edit.specs.Outcome.{input_outcome, outcome};
-ghost use Rattle.mp4edit.specs.Reading.{GivesInput, ReadsInput, StopsOpening, of_option};
-ghost use Rattle.mp4edit.specs.Written.{IsReady};
+// The movie of an option's file, opened and read.
+ghost use Rattle.std.specs.Prelude.{◌≡◌, ◌-◌, ◌<◌, ◌^◌, length, IfOk, IfSome, OnOk};
+ghost use Rattle.mp_ports.specs.Folder.{opened_at};
+ghost use Rattle.mp_ports.specs.Reading.{OnlyReads};
+ghost use Rattle.mp_movie.specs.StandsFor.{Hold, Reads};
+ghost use Rattle.mp_pieces.specs.Copied.{sizes_of};
+ghost use Rattle.mp_words.specs.Names.{kind_of};
+ghost use Rattle.mp4edit.specs.Names.{OpensAll, OpensFront, held_name};
+ghost use Rattle.mp4edit.specs.Outcome.{input, read_as};
+ghost use Rattle.mp_read.specs.Read.{LiesIn};
+ghost use Rattle.mp4edit.specs.Reading.{AllTold, Gives, KeepsRest};
 
-use crate::words::ImportJob;
+use crate::stop::{Stop, of_read};
 use adts_import::import_adts;
-use mp_layout::{FilePlan, plan_file};
 use mp_movie::Movie;
-use mp_ports::{Bad, Fail, Folder, OpenFail, ReadFail};
-use mp_read::{read_movie, stretches_are_held};
+use mp_ports::{Folder, OpenFail, ReadFail};
+use mp_read::read_movie;
+use mp_words::{FileKind, kind_of};
 use std::alloc::Global;
 
-/// Why an input gives no movie.
-#[derive(Clone, Copy, Debug, PartialEq, Eq)]
-pub enum InputFail {
-    Missing,
-    Bad(Bad),
-    ReadFault,
-    NoMemory,
-}
-
-/// Reads the job's input, and plans the file that is written of its movie.
-pub fn plan_job<F: Folder>(
-    alloc: Global,
-    folder: &mut F,
-    job: &ImportJob,
-) -> Result<(Movie, FilePlan), InputFail>
-    requires opened { (F.state folder.old).opened ≡ [] }
-    requires window { job.now.window ≡ 0 }
-    ensures outcome { IfSome (F.state folder.old).held (λ files. GivesInput (λ planned. planned.0) result
-        (F.state folder.new) (outcome job.now files) job.now.command) }
-    ensures ready { IfOk result (λ planned. IsReady (F.state folder.new) planned.0) }
-    ensures plan { IfOk result (λ planned. IsPlanOf planned.1 planned.0) }
-    ensures state { ReadsInput result job.now.input (F.state folder.old) (F.state folder.new) }
-{
-    let movie = match import_job(alloc, folder, job) {
-        Ok(movie) => movie,
-        Err(fail) => return Err(fail),
-    };
-    match plan_file(alloc, &movie) {
-        Ok(plan) => Ok((movie, plan)),
-        Err(Fail::Bad(bad)) => Err(InputFail::Bad(Bad {
-            command: job.out_command,
-            ..bad
-        })),
-        Err(Fail::NoMemory) => Err(InputFail::NoMemory),
-    }
-}
-
-/// The movie of the job's input.
-fn import_job<F: Folder>(alloc: Global, folder: &mut F, job: &ImportJob) -> Result<Movie, InputFail>
-    requires { (F.state folder.old).opened ≡ [] }
-    ensures movie { IfSome (F.state folder.old).held (λ files. GivesInput (λ movie. movie) result (F.state folder.new)
-        (input_outcome stream_movie job.now.command (bytes_under job.now.input files)) job.now.command) }
-    ensures ready { IfOk result (IsReady (F.state folder.new)) }
-    ensures state { ReadsInput result job.now.input (F.state folder.old) (F.state folder.new) }
-{
-    import_input(alloc, folder, &job.input, job.command)
-}
-
-/// The movie of the stream of that name, for the option of that number.
-fn import_input<F: Folder>(
+/// The movie of the file of that name, for the option of that number.
+pub fn read_input<F: Folder>(
     alloc: Global,
     folder: &mut F,
     name: &str,
     command: u32,
-) -> Result<Movie, InputFail>
-    requires { (F.state folder.old).opened ≡ [] }
-    ensures movie { IfSome (F.state folder.old).held (λ files. GivesInput (λ movie. movie) result (F.state folder.new)
-        (input_outcome stream_movie command (bytes_under name.now files)) command) }
-    ensures ready { IfOk result (IsReady (F.state folder.new)) }
-    ensures state { ReadsInput result name.now (F.state folder.old) (F.state folder.new) }
+) -> Result<Movie, Stop>
+    requires { length (F.state folder.old).opened < 2 ^ 32 - 1 }
+    ensures movie { IfSome (F.state folder.old).held (λ files.
+        Gives (λ movie. movie) result (F.state folder.new) (input files command name.now)) }
+    ensures told { IfSome (F.state folder.old).held (λ _. AllTold (F.state folder.old) → AllTold (F.state folder.new)) }
+    ensures held { IfOk result (Hold (sizes_of (F.state folder.new))) }
+    ensures names { OpensFront (held_name name.now) 1 (F.state folder.old) (F.state folder.new) }
+    ensures all { OnOk result (OpensAll (held_name name.now) 1 (F.state folder.old) (F.state folder.new)) }
+    ensures rest { KeepsRest result (F.state folder.old) (F.state folder.new) }
 {
-    stretches_are_held();
-    let file = match open_input(folder, name) {
+    let file = match folder.open(name) {
         Ok(file) => file,
-        Err(fail) => return Err(fail),
+        Err(OpenFail::Missing) => return Err(Stop::Missing { command }),
+        Err(OpenFail::Failed) => return Err(Stop::ReadFault),
+        Err(OpenFail::NoMemory) => return Err(Stop::NoMemory),
     };
-    of_option(import_adts(alloc, folder, file), command)
-}
-
-/// The movie that the MP4 file of that name presents, read for the option of that number.
-pub fn read_file<F: Folder>(
-    alloc: Global,
-    folder: &mut F,
-    name: &str,
-    command: u32,
-) -> Result<Movie, InputFail>
-    requires { (F.state folder.old).opened ≡ [] }
-    ensures movie { IfSome (F.state folder.old).held (λ files. GivesInput (λ movie. movie) result (F.state folder.new)
-        (input_outcome reading command (bytes_under name.now files)) command) }
-    ensures state { ReadsInput result name.now (F.state folder.old) (F.state folder.new) }
-{
-    stretches_are_held();
-    let file = match open_input(folder, name) {
-        Ok(file) => file,
-        Err(fail) => return Err(fail),
-    };
-    of_option(read_movie(alloc, folder, file), command)
-}
-
-/// Opens the file of that name.
-fn open_input<F: Folder>(folder: &mut F, name: &str) -> Result<u32, InputFail>
-    requires { (F.state folder.old).opened ≡ [] }
-    ensures opened { IfOk result (Opens (F.state folder.old) (F.state folder.new) name.now) }
-    ensures stopped { IfErr result (λ fail. StopsOpening fail (F.state folder.old) (F.state folder.new) name.now) }
-{
-    match folder.open(name) {
-        Ok(file) => Ok(file),
-        Err(OpenFail::Missing) => Err(InputFail::Missing),
-        Err(OpenFail::Failed) => Err(InputFail::ReadFault),
-        Err(OpenFail::NoMemory) => Err(InputFail::NoMemory),
-    }
-}
-
-/// What was read for the option of that number.
-fn of_option(read: Result<Movie, ReadFail>, command: u32) -> Result<Movie, InputFail>
-    ensures { result ≡ of_option command read }
-{
-    match read {
+    match read_opened(alloc, folder, file, kind_of(name)) {
         Ok(movie) => Ok(movie),
-        Err(ReadFail::Bad(bad)) => Err(InputFail::Bad(Bad { command, ..bad })),
-        Err(ReadFail::ReadFault) => Err(InputFail::ReadFault),
-        Err(ReadFail::NoMemory) => Err(InputFail::NoMemory),
+        Err(fail) => Err(of_read(fail, command)),
     }
+}
+
+/// The movie of an opened file of that kind.
+fn read_opened<F: Folder>(
+    alloc: Global,
+    folder: &mut F,
+    file: u32,
+    kind: Option<FileKind>,
+) -> Result<Movie, ReadFail>
+    requires { file < length (F.state folder.old).opened }
+    ensures movie { IfSome (opened_at (F.state folder.old) file).bytes (λ bytes.
+        Reads file bytes result (read_as kind bytes)) }
+    ensures lies { IfOk result (LiesIn file (opened_at (F.state folder.old) file).size) }
+    ensures folder { OnlyReads result (F.state folder.old) (F.state folder.new) }
+{
+    if matches!(kind, Some(FileKind::Adts)) {
+        return import_adts(alloc, folder, file);
+    }
+    read_movie(alloc, folder, file)
 }

@@ -8,14 +8,16 @@ ghost use Rattle.mp4edit.specs.Status.{status, IsStatusOf};
 ghost use Rattle.mp4edit.specs.Words.{job};
 
 mod dump;
+mod edit;
 mod ending;
-mod import;
 mod input;
 mod line;
 mod message;
+mod options;
 mod output;
 mod real;
 mod run;
+mod stop;
 #[cfg(test)]
 mod tests;
 mod words;

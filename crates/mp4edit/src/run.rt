@@ -1,14 +1,14 @@
 // A run: from the words of the line to its ending.
 ghost use Rattle.std.specs.Prelude.{◌≡◌, ◌<◌, ◌^◌, [], None, length, map, string_bytes, IfErr};
-ghost use Rattle.mp4edit.specs.Words.{job, IfDumps, IfImports};
-ghost use Rattle.mp4edit.specs.Run.{HasCauses, RaisesMisses, AnswersWords, EndsDump, EndsImport, IsUntouched, SaysNothing};
+ghost use Rattle.mp4edit.specs.Words.{job, IfDumps, IfEdits};
+ghost use Rattle.mp4edit.specs.Run.{HasCauses, RaisesMisses, AnswersWords, EndsDump, EndsEdit, IsUntouched, SaysNothing};
 
 use crate::dump::tell_file;
+use crate::edit::{Output, write_movie};
 use crate::ending::Ending;
-use crate::import::import_file;
-use crate::words::{BuiltJob, read_job};
+use crate::words::read_job;
 use mp_ports::{Folder, Report};
-use mp_words::WordFail;
+use mp_words::{Job, WordFail};
 use std::alloc::Global;
 
 /// Does all that a line of words asks for, over a folder and a report, and says how it ended.
@@ -31,17 +31,36 @@ pub fn mp4edit<F: Folder, R: Report>(
         IsUntouched (F.state folder.old) (F.state folder.new) (R.state report.old) (R.state report.new)) }
     ensures quiet { SaysNothing result (R.state report.old) (R.state report.new) }
 
-    // A job that writes a file: what it opens and creates, and, where the folder tells what it holds, how the
-    // outcome of the job decides what is written and said: at `Done` the whole file, which presents the movie.
-    ensures import { IfImports (job (map string_bytes words.now)) (λ job.
-        EndsImport result job (F.state folder.old) (F.state folder.new) (R.state report.old) (R.state report.new)) }
+    // A job that writes a file: what it opens and creates, and, where the folder tells what it holds, how what the
+    // options come to decides what is written and said: at `Done` the whole file, which presents the movie.
+    ensures edit { IfEdits (job (map string_bytes words.now)) (λ edit.
+        EndsEdit result edit (F.state folder.old) (F.state folder.new) (R.state report.old) (R.state report.new)) }
     // A job that tells of a file: it creates nothing, and at `Done` says the text of the movie that the file presents.
-    ensures dump { IfDumps (job (map string_bytes words.now)) (λ job.
-        EndsDump result job (F.state folder.old) (F.state folder.new) (R.state report.old) (R.state report.new)) }
+    ensures dump { IfDumps (job (map string_bytes words.now)) (λ kind name.
+        EndsDump result kind name (F.state folder.old) (F.state folder.new) (R.state report.old) (R.state report.new)) }
 {
     match read_job(alloc, words) {
-        Ok(BuiltJob::Import(job)) => import_file(alloc, job, folder, report),
-        Ok(BuiltJob::Dump(job)) => tell_file(alloc, &job, folder, report),
+        Ok(
+            Job::Edit {
+                commands,
+                out,
+                out_command,
+                window,
+            },
+        ) => write_movie(
+            alloc,
+            &commands,
+            Output {
+                name: out,
+                command: out_command,
+                window,
+            },
+            folder,
+            report,
+        ),
+        Ok(Job::Dump { kind, name }) => tell_file(alloc, kind, &name, folder, report),
+        // No job that is built generates files.
+        Ok(Job::Gen { .. }) => Ending::NoMemory,
         Err(WordFail::Words { word, kind }) => Ending::Words { word, kind },
         Err(WordFail::NoMemory) => Ending::NoMemory,
     }

@@ -2,6 +2,8 @@
 ghost use Rattle.std.specs.Prelude.{◌≡◌, ◌<◌, [], None, IfOk, vec_len};
 
 mod dumps;
+mod edits;
+mod endings;
 
 use crate::{Ending, WordKind, mp4edit};
 use mp_ports::{Bad, Code, MemFile, MemFolder, MemReport};
@@ -98,6 +100,15 @@ const ONE_FRAME_FILE: [(&str, &[u8]); 19] = [
     ),
     ("mdat", b"\x00\x00\x00\x0amdat\xaa\xbb"),
 ];
+
+// The file of one frame.
+fn film(alloc: Global) -> Result<Vec<u8>, Fail> {
+    let mut film = Vec::new(alloc);
+    for (_, bytes) in ONE_FRAME_FILE {
+        film.extend_from_slice(bytes)?;
+    }
+    Ok(film)
+}
 
 // A folder that holds these bytes as `a.aac`, and whose calls of these numbers fail.
 fn folder(alloc: Global, bytes: Vec<u8>, failing: &[u64]) -> Result<MemFolder, Fail>
@@ -200,7 +211,7 @@ fn streams_are_written(rt: HostRuntime) -> Result<(), Fail> {
 fn what_is_refused_is_not_written(rt: HostRuntime) -> Result<(), Fail> {
     let alloc = rt.alloc();
     let job = &["-add", "a.aac", "-out", "b.mp4"];
-    let rows: [(&[&str], &[u8], Ending); 22] = [
+    let rows: [(&[&str], &[u8], Ending); 15] = [
         (job, b"", refused(Code::AdtsEmpty, 0)),
         (
             job,
@@ -257,8 +268,6 @@ fn what_is_refused_is_not_written(rt: HostRuntime) -> Result<(), Fail> {
             FRAME,
             Ending::NoFile { command: 2 },
         ),
-        (&[], FRAME, fault(0, WordKind::Empty)),
-        (&["-add", "a.aac"], FRAME, fault(0, WordKind::NoOut)),
         (
             &["-add", "a.aac", "-out", "b.mp3"],
             FRAME,
@@ -269,27 +278,6 @@ fn what_is_refused_is_not_written(rt: HostRuntime) -> Result<(), Fail> {
             FRAME,
             fault(1, WordKind::Unknown),
         ),
-        (
-            &["-add", "a.mp4", "-out", "a.mp4"],
-            FRAME,
-            fault(4, WordKind::SameName),
-        ),
-        (
-            &["-add", "a.mp4", "-out", "b.mp4"],
-            FRAME,
-            fault(1, WordKind::NotYet),
-        ),
-        (
-            &["-add", "a.aac", "-add", "a.aac", "-out", "b.mp4"],
-            FRAME,
-            fault(3, WordKind::NotYet),
-        ),
-        (
-            &["-out", "b.mp4", "-inter", "0", "-add", "a.aac"],
-            FRAME,
-            fault(3, WordKind::NotYet),
-        ),
-        (&["-out", "b.mp4"], FRAME, fault(1, WordKind::NotYet)),
         (&["-gen", "50"], FRAME, fault(1, WordKind::NotYet)),
     ];
     for (texts, bytes, ending) in rows {
@@ -316,7 +304,7 @@ fn a_stream_of_more_than_64_mebibytes_is_written(rt: HostRuntime) -> Result<(), 
     for _ in 0..8200 {
         bytes.extend_from_slice(&frame)?;
     }
-    let line = words(alloc, &["-add", "a.aac", "-out", "b.mp4"])?;
+    let line = words(alloc, &["-add", "a.aac", "-inter", "0", "-out", "b.mp4"])?;
     let mut files = folder(alloc, bytes, &[])?;
     let mut report = MemReport::new(alloc, Vec::new(alloc));
     let ending = mp4edit(alloc, &line, &mut files, &mut report);
@@ -343,10 +331,7 @@ fn names_are_read_in_either_case(rt: HostRuntime) -> Result<(), Fail> {
 fn each_call_of_the_folder_fails_in_turn(rt: HostRuntime) -> Result<(), Fail> {
     let alloc = rt.alloc();
     let line = words(alloc, &["-add", "a.aac", "-out", "b.mp4"])?;
-    let mut whole = Vec::new(alloc);
-    for (_, bytes) in ONE_FRAME_FILE {
-        whole.extend_from_slice(bytes)?;
-    }
+    let whole = film(alloc)?;
     // The calls are open, read, create, the front of the file, a read and a write of its sample, and finish.
     let rows = [
         (1, Ending::ReadFault, 0),
@@ -384,50 +369,5 @@ fn a_failing_report_leaves_the_file_whole(rt: HostRuntime) -> Result<(), Fail> {
     assert_eq!(rt; files.written().len(), 578);
     assert!(rt; files.finished());
     assert_eq!(rt; report.said(), b"wrote b.mp4 tracks 1".as_slice());
-    Ok(())
-}
-
-#[test]
-fn endings_have_their_statuses_and_texts(rt: HostRuntime) -> Result<(), Fail> {
-    let alloc = rt.alloc();
-    let bad = Bad {
-        code: Code::AdtsCut,
-        command: 1,
-        file: 0,
-        place: 0,
-    };
-    let rows = [
-        (
-            Ending::Refused(bad),
-            2,
-            "refused: 41 AdtsCut, command 1, file 0, place 0",
-        ),
-        (Ending::NoFile { command: 3 }, 3, "command 3: no such file"),
-        (Ending::ReadFault, 4, "read failed"),
-        (Ending::WriteFault, 5, "write failed"),
-        (Ending::ReportFault, 6, "report failed"),
-        (Ending::NoMemory, 7, "out of memory"),
-    ];
-    assert_eq!(rt; Ending::Done.status(), 0);
-    for (ending, status, text) in rows {
-        assert_eq!(rt; ending.status(), status, "{text}");
-        assert_eq!(rt; ending.to_string(alloc)?.as_str(), text);
-    }
-    let kinds = [
-        (WordKind::Empty, "word 4: no words"),
-        (WordKind::Unknown, "word 4: unknown word"),
-        (WordKind::Mixed, "word 4: not together"),
-        (WordKind::OutTwice, "word 4: -out twice"),
-        (WordKind::Missing, "word 4: argument missing"),
-        (WordKind::Argument, "word 4: argument refused"),
-        (WordKind::NoOut, "word 4: no -out"),
-        (WordKind::SameName, "word 4: output is an input"),
-        (WordKind::NotYet, "word 4: not built yet"),
-    ];
-    for (kind, text) in kinds {
-        let ending = Ending::Words { word: 4, kind };
-        assert_eq!(rt; ending.status(), 1, "{text}");
-        assert_eq!(rt; ending.to_string(alloc)?.as_str(), text);
-    }
     Ok(())
 }

@@ -1,20 +1,11 @@
 // Dumps of files in memory.
 ghost use Rattle.std.specs.Prelude.{◌≡◌, [], None, IfOk};
 
-use super::{ONE_FRAME_FILE, fault, refused, words};
+use super::{fault, film, refused, words};
 use crate::{Ending, WordKind, mp4edit};
 use mp_ports::{Code, MemFile, MemFolder, MemReport};
 use std::alloc::Global;
 use std::test::Fail;
-
-// The file of one frame.
-fn film(alloc: Global) -> Result<Vec<u8>, Fail> {
-    let mut film = Vec::new(alloc);
-    for (_, bytes) in ONE_FRAME_FILE {
-        film.extend_from_slice(bytes)?;
-    }
-    Ok(film)
-}
 
 // A folder that holds these bytes as `a.mp4`, and whose calls of these numbers fail.
 fn folder(alloc: Global, bytes: Vec<u8>, failing: &[u64]) -> Result<MemFolder, Fail>
@@ -38,17 +29,17 @@ fn dumped(alloc: Global, bytes: Vec<u8>) -> Result<Ending, Fail> {
 }
 
 const INFO: &str = "movie scale 1000 duration 24 tracks 1\n\
-    track 1 handler soun entry mp4a scale 44100 samples 1 sync 1 bytes 2 \
-    duration 1024 language und enabled edits none\n";
+    track 1 handler soun entry mp4a scale 44100 samples 1 sync 1 bytes 2 duration 1024 \
+    language und enabled edits none\n";
 
 const TIMELINE: &str = "movie scale 1000 duration 24 tracks 1\n\
-    track 1 handler soun entry mp4a scale 44100 samples 1 sync 1 bytes 2 \
-    duration 1024 language und enabled edits none\n\
+    track 1 handler soun entry mp4a scale 44100 samples 1 sync 1 bytes 2 duration 1024 \
+    language und enabled edits none\n\
     sample 1 size 2 decode 0 duration 1024 composition 0 sync entry 1\n";
 
-const JSON: &str = "{\"duration\":24,\"scale\":1000,\"tracks\":[{\"edits\":null,\"enabled\":true,\
-    \"entries\":[\"mp4a\"],\"handler\":\"soun\",\"language\":\"und\",\"number\":1,\
-    \"samples\":[[2,0,1024,0,1,1]],\"scale\":44100}]}\n";
+const JSON: &str =
+    "{\"duration\":24,\"scale\":1000,\"tracks\":[{\"edits\":null,\"enabled\":true,\"entries\":[\"mp4a\"],\
+    \"handler\":\"soun\",\"language\":\"und\",\"number\":1,\"samples\":[[2,0,1024,0,1,1]],\"scale\":44100}]}\n";
 
 #[test]
 fn a_file_is_told_of(rt: HostRuntime) -> Result<(), Fail> {

@@ -1,0 +1,89 @@
+use Rattle.std.proofs.Common.{rules, ◌≡◌, ℕ, List, length, sym, subst, ap, Err}
+use Rattle.mp_ports.specs.Folder.{FolderState}
+use Rattle.mp_ports.specs.Report.{FailsToSay, Says}
+use Rattle.mp_movie.specs.Placed.{sample_count}
+use Rattle.mp4edit.specs.declared.ending.Ending.{Ending}
+use Rattle.mp4edit.specs.Line.{line, wrote}
+use Rattle.mp4edit.specs.Outcome.{outcome}
+use Rattle.mp4edit.specs.Reading.{told_files}
+use Rattle.mp4edit.specs.Run.{SaysText, Tells, edit_of}
+use Rattle.mp4edit.proofs.Outcomes.{created_front, front_is_told, line_is, of_outcome, written_is_told}
+use Rattle.mp4edit.proofs.edit.write_movie.Goals as goal
+
+-- a read failed behind the creation
+pub returns-in-Err-ReadFault-clause-told : goal.returns-in-Err-ReadFault-clause-told
+returns-in-Err-ReadFault-clause-told g c =
+    let held = (g.F.Folder.state c.args.folder.now).held in
+    let s = g.F.Folder.state c.plan_movie.new.folder in
+    let new = g.F.Folder.state c.write_file.new.folder in
+    let old = g.F.Folder.state c.args.folder.now in
+    let same : s.written ≡ old.written = ap (λ (x : FolderState). x.written) c.in-Ok.ensures.rest in
+    let edit = edit_of c.args.commands.now c.args.output in
+    of_outcome held s c.in-Ok.planned.0 (outcome edit) (λ o. Tells Ending.ReadFault o c.args.output.window old new) c.in-Ok.ensures.movie c.in-Ok.ensures.told c.in-Ok.ensures.held
+    (λ told. created_front old s new _ _ _ same told (c.in-Err-ReadFault.ensures.read _ c.in-Ok.ensures.plan (ap Err c.in-Err-ReadFault.field-0-is)).left)
+
+-- writing failed
+pub returns-in-Err-WriteFault-clause-told : goal.returns-in-Err-WriteFault-clause-told
+returns-in-Err-WriteFault-clause-told g c =
+    let held = (g.F.Folder.state c.args.folder.now).held in
+    let s = g.F.Folder.state c.plan_movie.new.folder in
+    let new = g.F.Folder.state c.write_file.new.folder in
+    let old = g.F.Folder.state c.args.folder.now in
+    let same : s.written ≡ old.written = ap (λ (x : FolderState). x.written) c.in-Ok.ensures.rest in
+    let edit = edit_of c.args.commands.now c.args.output in
+    of_outcome held s c.in-Ok.planned.0 (outcome edit) (λ o. Tells Ending.WriteFault o c.args.output.window old new) c.in-Ok.ensures.movie c.in-Ok.ensures.told c.in-Ok.ensures.held
+    (λ told. front_is_told old s new _ _ _ same told (c.in-Err-WriteFault.ensures.write _ c.in-Ok.ensures.plan (ap Err c.in-Err-WriteFault.field-0-is)).left)
+
+-- the report failed: the file is whole
+pub returns-then-is_err-clause-told : goal.returns-then-is_err-clause-told
+returns-then-is_err-clause-told g c =
+    let held = (g.F.Folder.state c.args.folder.now).held in
+    let s = g.F.Folder.state c.plan_movie.new.folder in
+    let new = g.F.Folder.state c.write_file.new.folder in
+    let old = g.F.Folder.state c.args.folder.now in
+    let same : s.written ≡ old.written = ap (λ (x : FolderState). x.written) c.in-Ok.ensures.rest in
+    let edit = edit_of c.args.commands.now c.args.output in
+    of_outcome held s c.in-Ok.planned.0 (outcome edit) (λ o. Tells Ending.ReportFault o c.args.output.window old new) c.in-Ok.ensures.movie c.in-Ok.ensures.told c.in-Ok.ensures.held
+    (λ told. written_is_told old s new _ _ _ _ same c.in-Ok.ensures.plan told (c.in-Ok-write_file.ensures.whole _ c.in-Ok.ensures.plan))
+
+pub returns-then-is_err-clause-said : goal.returns-then-is_err-clause-said
+returns-then-is_err-clause-said g c =
+    let held = (g.F.Folder.state c.args.folder.now).held in
+    let s = g.F.Folder.state c.plan_movie.new.folder in
+    let before = g.R.Report.state c.args.report.now in
+    let after = g.R.Report.state c.say.new.self in
+    let planned = c.in-Ok.planned in
+    let name = c.args.output.name in
+    let edit = edit_of c.args.commands.now c.args.output in
+    let said : FailsToSay before after (wrote name (length planned.0.tracks) (sample_count planned.0.tracks) planned.1.length) = search rules in
+    of_outcome held s planned.0 (outcome edit) (λ o. SaysText Ending.ReportFault o (λ m. line name m c.args.output.window) before after) c.in-Ok.ensures.movie c.in-Ok.ensures.told c.in-Ok.ensures.held
+    (λ told. subst (λ (text : List ℕ). FailsToSay before after text) (sym (line_is (told_files s) planned.0 planned.1 _ _ told.hold c.in-Ok.ensures.plan)) said)
+
+-- all is done
+pub returns-clause-told : goal.returns-clause-told
+returns-clause-told g c =
+    let held = (g.F.Folder.state c.args.folder.now).held in
+    let s = g.F.Folder.state c.plan_movie.new.folder in
+    let new = g.F.Folder.state c.write_file.new.folder in
+    let old = g.F.Folder.state c.args.folder.now in
+    let same : s.written ≡ old.written = ap (λ (x : FolderState). x.written) c.in-Ok.ensures.rest in
+    let edit = edit_of c.args.commands.now c.args.output in
+    of_outcome held s c.in-Ok.planned.0 (outcome edit) (λ o. Tells Ending.Done o c.args.output.window old new) c.in-Ok.ensures.movie c.in-Ok.ensures.told c.in-Ok.ensures.held
+    (λ told. written_is_told old s new _ _ _ _ same c.in-Ok.ensures.plan told (c.in-Ok-write_file.ensures.whole _ c.in-Ok.ensures.plan))
+
+pub returns-clause-said : goal.returns-clause-said
+returns-clause-said g c =
+    let held = (g.F.Folder.state c.args.folder.now).held in
+    let s = g.F.Folder.state c.plan_movie.new.folder in
+    let before = g.R.Report.state c.args.report.now in
+    let after = g.R.Report.state c.say.new.self in
+    let planned = c.in-Ok.planned in
+    let name = c.args.output.name in
+    let edit = edit_of c.args.commands.now c.args.output in
+    let said : Says before after (wrote name (length planned.0.tracks) (sample_count planned.0.tracks) planned.1.length) = search rules in
+    of_outcome held s planned.0 (outcome edit) (λ o. SaysText Ending.Done o (λ m. line name m c.args.output.window) before after) c.in-Ok.ensures.movie c.in-Ok.ensures.told c.in-Ok.ensures.held
+    (λ told. subst (λ (text : List ℕ). Says before after text) (sym (line_is (told_files s) planned.0 planned.1 _ _ told.hold c.in-Ok.ensures.plan)) said)
+
+-- the plan is that of the movie
+pub write_file-requires-clause-plan : goal.write_file-requires-clause-plan
+write_file-requires-clause-plan g c = record { millis = c.args.output.window; is = c.in-Ok.ensures.plan }

@@ -1,0 +1,33 @@
+use Rattle.std.proofs.Common.{rules, IfSome, Ok, Err}
+use Rattle.mp_movie.specs.StandsFor.{stands_for}
+use Rattle.mp4edit.specs.Outcome.{add_outcome}
+use Rattle.mp4edit.specs.Reading.{Gives, told_files}
+use Rattle.mp4edit.proofs.Folds.{added_gives, answered, held_still}
+use Rattle.mp4edit.proofs.options.add_input.Goals as goal
+
+pub returns-clause-movie : goal.returns-clause-movie
+returns-clause-movie g c =
+    let all = c.in-Ok.ensures.all in
+    let s = g.F.Folder.state c.args.folder.now in
+    let t = g.F.Folder.state c.read_input.new.folder in
+    let gives : IfSome s.held (λ files. Gives {A = Unit} (λ _. c.add_tracks.new.movie) (answered c.args.command (Ok c.in-Ok-add_tracks.field-0)) t (add_outcome files c.args.command c.args.name.now c.args.choice (stands_for (told_files s) c.args.movie.now))) =
+    added_gives c.files_may_follow.ensures s t all.files c.args.name.now c.args.command c.args.choice c.in-Ok.other c.args.movie.now c.add_tracks.new.movie (Ok c.in-Ok-add_tracks.field-0)
+    all.opened c.requires.told (search rules) c.requires.held c.in-Ok.ensures.held c.in-Ok.ensures.movie c.in-Ok-add_tracks.ensures.added in
+    search (rules, gives)
+
+pub returns-clause-held : goal.returns-clause-held
+returns-clause-held g c =
+    let all = c.in-Ok.ensures.all in
+    let s = g.F.Folder.state c.args.folder.now in
+    let t = g.F.Folder.state c.read_input.new.folder in
+    c.in-Ok-add_tracks.ensures.added.held _ (held_still c.files_may_follow.ensures s t all.files c.args.movie.now all.opened c.requires.held) c.in-Ok.ensures.held
+
+pub returns-in-Err-add_tracks-clause-movie : goal.returns-in-Err-add_tracks-clause-movie
+returns-in-Err-add_tracks-clause-movie g c =
+    let all = c.in-Ok.ensures.all in
+    let s = g.F.Folder.state c.args.folder.now in
+    let t = g.F.Folder.state c.read_input.new.folder in
+    let gives : IfSome s.held (λ files. Gives {A = Unit} (λ _. c.add_tracks.new.movie) (answered c.args.command (Err (c.in-Err-add_tracks.fail, c.in-Err-add_tracks.field-0-1))) t (add_outcome files c.args.command c.args.name.now c.args.choice (stands_for (told_files s) c.args.movie.now))) =
+    added_gives c.files_may_follow.ensures s t all.files c.args.name.now c.args.command c.args.choice c.in-Ok.other c.args.movie.now c.add_tracks.new.movie (Err (c.in-Err-add_tracks.fail, c.in-Err-add_tracks.field-0-1))
+    all.opened c.requires.told (search rules) c.requires.held c.in-Ok.ensures.held c.in-Ok.ensures.movie c.in-Err-add_tracks.ensures.added in
+    search (rules, gives)

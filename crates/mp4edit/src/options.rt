@@ -1,0 +1,115 @@
+// The options of a line, applied in their order.
+ghost use Rattle.std.specs.Prelude.{◌≡◌, ◌-◌, ◌<◌, ◌^◌, [], length, Some, All, IfOk, IfSome, OnOk};
+ghost use Rattle.mp_movie.specs.StandsFor.{Hold, stands_for};
+ghost use Rattle.mp_pieces.specs.Copied.{sizes_of};
+ghost use Rattle.mp_words.specs.Jobs.{IsAsked, asked};
+ghost use Rattle.mp4edit.specs.Names.{OpensAll, OpensFront, held_name, names_of, reads};
+ghost use Rattle.mp4edit.specs.Outcome.{add_outcome, folded, no_movie, step};
+ghost use Rattle.mp4edit.specs.Reading.{AllTold, Gives, KeepsRest, of_done, told_files};
+
+use crate::input::read_input;
+use crate::stop::{Stop, of_fail};
+use mp_movie::{Movie, files_may_follow};
+use mp_ports::{Bad, Fail, Folder};
+use mp_words::{Command, What};
+use std::alloc::Global;
+use track_ops::{Choice, add_tracks, remove, set_enabled, set_language};
+
+/// The movie that the commands make, one after another, of no movie.
+pub fn fold<F: Folder>(alloc: Global, folder: &mut F, commands: &[Command]) -> Result<Movie, Stop>
+    requires opened { (F.state folder.old).opened ≡ [] }
+    requires few { length commands.now < 2 ^ 31 }
+    requires asked { All (λ command. IsAsked command.what) commands.now }
+    ensures movie { IfSome (F.state folder.old).held (λ files.
+        Gives (λ movie. movie) result (F.state folder.new) (folded files commands.now no_movie)) }
+    ensures told { IfSome (F.state folder.old).held (λ _. AllTold (F.state folder.new)) }
+    ensures held { IfOk result (Hold (sizes_of (F.state folder.new))) }
+    ensures names { OpensFront (reads commands.now) (length commands.now) (F.state folder.old) (F.state folder.new) }
+    ensures all { OnOk result (OpensAll (reads commands.now) (length commands.now)
+        (F.state folder.old) (F.state folder.new)) }
+    ensures rest { KeepsRest result (F.state folder.old) (F.state folder.new) }
+{
+    let mut movie = Movie::new(alloc);
+    for command in commands {
+        if let Err(stop) = take_step(alloc, folder, &mut movie, command) {
+            return Err(stop);
+        }
+    }
+    Ok(movie)
+}
+
+/// Applies an option to the movie so far.
+fn take_step<F: Folder>(
+    alloc: Global,
+    folder: &mut F,
+    movie: &mut Movie,
+    command: &Command,
+) -> Result<(), Stop>
+    requires opened { length (F.state folder.old).opened < 2 ^ 32 - 1 }
+    requires asked { IsAsked command.now.what }
+    requires told { IfSome (F.state folder.old).held (λ _. AllTold (F.state folder.old)) }
+    requires held { Hold (sizes_of (F.state folder.old)) movie.old }
+    ensures movie { IfSome (F.state folder.old).held (λ files. Gives (λ _. movie.new) result (F.state folder.new)
+        (step files command.now.place command.now.what (stands_for (told_files (F.state folder.old)) movie.old))) }
+    ensures told { IfSome (F.state folder.old).held (λ _. AllTold (F.state folder.new)) }
+    ensures held { OnOk result (Hold (sizes_of (F.state folder.new)) movie.new) }
+    ensures names { OpensFront (names_of command.now.what) 1 (F.state folder.old) (F.state folder.new) }
+    ensures all { OnOk result (OpensAll (names_of command.now.what) 1 (F.state folder.old) (F.state folder.new)) }
+    ensures rest { KeepsRest result (F.state folder.old) (F.state folder.new) }
+{
+    let place = command.place;
+    match &command.what {
+        What::Add { name, choice, .. } => add_input(alloc, folder, movie, name, *choice, place),
+        What::Rem { number } => of_done(remove(movie, *number), place),
+        What::Lang { number, letters } => of_done(set_language(movie, *number, *letters), place),
+        What::Enabled { number, on } => of_done(set_enabled(movie, *number, *on), place),
+        // No job that is built has another one.
+        What::Cat { .. }
+        | What::Delay { .. }
+        | What::Cut { .. }
+        | What::TrackScale { .. }
+        | What::MovieScale { .. } => Ok(()),
+    }
+}
+
+/// Reads the file of that name, and adds the chosen tracks of its movie.
+fn add_input<F: Folder>(
+    alloc: Global,
+    folder: &mut F,
+    movie: &mut Movie,
+    name: &str,
+    choice: Choice,
+    command: u32,
+) -> Result<(), Stop>
+    requires opened { length (F.state folder.old).opened < 2 ^ 32 - 1 }
+    requires told { IfSome (F.state folder.old).held (λ _. AllTold (F.state folder.old)) }
+    requires held { Hold (sizes_of (F.state folder.old)) movie.old }
+    ensures movie { IfSome (F.state folder.old).held (λ files. Gives (λ _. movie.new) result (F.state folder.new)
+        (add_outcome files command name.now choice (stands_for (told_files (F.state folder.old)) movie.old))) }
+    ensures told { IfSome (F.state folder.old).held (λ _. AllTold (F.state folder.new)) }
+    ensures held { OnOk result (Hold (sizes_of (F.state folder.new)) movie.new) }
+    ensures names { OpensFront (held_name name.now) 1 (F.state folder.old) (F.state folder.new) }
+    ensures all { OnOk result (OpensAll (held_name name.now) 1 (F.state folder.old) (F.state folder.new)) }
+    ensures rest { KeepsRest result (F.state folder.old) (F.state folder.new) }
+{
+    files_may_follow();
+    let other = match read_input(alloc, folder, name, command) {
+        Ok(other) => other,
+        Err(stop) => return Err(stop),
+    };
+    match add_tracks(alloc, movie, other, choice) {
+        Ok(()) => {}
+        Err((fail, _)) => return Err(of_fail(fail, command)),
+    }
+    Ok(())
+}
+
+/// What was done for the option of that number.
+fn of_done(done: Result<(), Bad>, command: u32) -> Result<(), Stop>
+    ensures { result ≡ of_done command done }
+{
+    match done {
+        Ok(()) => Ok(()),
+        Err(bad) => Err(of_fail(Fail::Bad(bad), command)),
+    }
+}
