@@ -71,7 +71,7 @@ pub fn next_track(movie: &Movie) -> u32
 
 /// The latest end of a sample, in ticks of the track; 0 where none is behind the start. Of samples with one
 /// offset the last ends latest, so that each run of offsets is read once.
-fn extent(track: &Track) -> u128
+pub fn extent(track: &Track) -> u128
     requires { AreColumns track.now }
     ensures latest { (files : List (List ℕ)) → result ≡ extent (samples_of files track.now) }
     ensures short { result < 2 ^ 88 }

@@ -21,7 +21,7 @@ mod tests;
 mod track;
 mod written;
 
-pub use durations::{media_duration, movie_duration, next_track, track_duration};
+pub use durations::{extent, media_duration, movie_duration, next_track, track_duration};
 pub use law::{
     a_sample_follows, columns_are_kept, files_may_follow, heads_are_kept, limits_are_of_tracks,
     parts_stand_for_movies, plain_heads_fit, readings_are_guarded, same_movie_is_presented,
