@@ -10,6 +10,8 @@ mod cursors;
 mod law;
 mod next;
 mod plan;
+#[cfg(test)]
+mod tests;
 mod times;
 
 pub use chunk::Chunk;

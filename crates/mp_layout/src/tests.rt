@@ -1,4 +1,5 @@
-//! Files of small movies, by the places of their chunks.
+//! Files of small movies: byte by byte, by the places of their chunks, and what stands of them where a call of
+//! the folder fails.
 ghost use Rattle.std.specs.Prelude.{◌≡◌, ◌≢◌, ◌≤◌, ◌<◌, ◌^◌, IfOk, codes, length, map};
 ghost use Rattle.std.specs.List.{AllByRecursion};
 ghost use Rattle.mp_boxes.specs.Boxes.{IsBytes};
@@ -8,15 +9,15 @@ ghost use Rattle.mp_movie.specs.WellFormed.{AreDistinct};
 ghost use Rattle.mp_movie.specs.WholeParts.{AreTrackParts};
 ghost use Rattle.mp_layout.specs.Chunked.{IsChunkOrder};
 
+mod bytes;
+mod emitted;
 mod layouts;
 
 use super::{FilePlan, plan_file};
 use mp_columns::Column;
 use mp_entries::{EsdsEntry, esds_entry};
 use mp_interleave::chunk_plan;
-use mp_movie::{
-    Movie, MovieParts, Piece, Track, a_sample_follows, check_fits, pieces_len, plain_heads_fit,
-};
+use mp_movie::{Movie, MovieParts, Piece, Track, a_sample_follows, check_fits, pieces_len, plain_heads_fit};
 use mp_timeline::{EntryBytes, MovieHead, TrackHead};
 use std::alloc::{AllocError, Global};
 use std::process::Abort;

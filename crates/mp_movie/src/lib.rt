@@ -19,6 +19,8 @@ mod sums;
 #[cfg(test)]
 mod tests;
 mod track;
+#[cfg(test)]
+mod track_tests;
 mod written;
 
 pub use durations::{extent, media_duration, movie_duration, next_track, track_duration};

@@ -1,8 +1,7 @@
-//! Limits and their order, columns and pieces, scales: the answers were worked out by hand.
+//! Limits and their order, scales: the answers were worked out by hand.
 
-ghost use Rattle.std.specs.Prelude.{◌≡◌, ◌≤◌, ◌<◌, ◌^◌, sum_by};
+ghost use Rattle.std.specs.Prelude.{◌≤◌};
 ghost use Rattle.mp_columns.specs.declared.columns.TheConstants.{MOST_ITEMS};
-ghost use Rattle.mp_pieces.specs.Piece.{piece_len};
 ghost use Rattle.mp_frac.specs.Time.{IsInRange};
 
 use super::*;
@@ -346,59 +345,6 @@ fn numbers_of_samples_and_tracks(rt: HostRuntime) -> Result<(), Fail> {
         }
         assert_eq!(rt; check_fits(&movie(alloc, tracks)), wanted);
     }
-    Ok(())
-}
-
-fn piece(from: u64, len: u32, prefix: Option<u32>) -> Piece
-    ensures { result ≡ record { file = 0; from = from; len = len; prefix = prefix } }
-{
-    Piece {
-        file: 0,
-        from,
-        len,
-        prefix,
-    }
-}
-
-// The numbers of the only sample of a track.
-fn check_sample(
-    rt: &impl Abort,
-    alloc: Global,
-    pieces: &[Piece],
-    sync: bool,
-    size: i64,
-    count: i64,
-) -> Result<(), NoMemory>
-    requires { sum_by piece_len pieces.now < 2 ^ 63 }
-{
-    let head = TrackHead::plain(alloc, *b"vide")?;
-    let mut track = Track::new(alloc, 1, head, 1000, Vec::new(alloc));
-    track.push_sample(40, 80, sync, 1, pieces)?;
-    assert_eq!(rt; track.deltas.len(), 1);
-    assert_eq!(rt; track.deltas.total(), 40);
-    assert_eq!(rt; track.offsets.total(), 80);
-    assert_eq!(rt; track.syncs.total(), i128::from(sync));
-    assert_eq!(rt; track.sizes.total(), i128::from(size));
-    assert_eq!(rt; track.counts.total(), i128::from(count));
-    Ok(())
-}
-
-// Samples of no piece, of one, and of three with prefixes, whose sizes count them.
-#[test]
-fn samples_of_pieces(rt: HostRuntime) -> Result<(), Fail> {
-    let alloc = rt.alloc();
-    let most = piece(0, u32::MAX, Some(7));
-    let prefixed = [
-        piece(9, 5, Some(5)),
-        piece(20, 0, Some(0)),
-        piece(20, 3, None),
-    ];
-    assert_eq!(rt; pieces_len(&[]), 0);
-    assert_eq!(rt; pieces_len(&prefixed), 16);
-    assert_eq!(rt; pieces_len(&[most, most]), 8_589_934_598);
-    check_sample(&rt, alloc, &[], true, 0, 0)?;
-    check_sample(&rt, alloc, &[piece(1, 8, None)], false, 8, 1)?;
-    check_sample(&rt, alloc, &prefixed, true, 16, 3)?;
     Ok(())
 }
 

@@ -1,5 +1,5 @@
 //! Where chunks stand, and which tracks have places of 64 bits. The rows were laid out by `tools/layout.py`.
-ghost use Rattle.std.specs.Prelude.{◌≡◌, ◌≤◌, IfOk};
+ghost use Rattle.std.specs.Prelude.{◌≡◌, ◌≢◌, ◌≤◌, IfOk, length};
 ghost use Rattle.mp_movie.specs.Placed.{plain_scale};
 ghost use Rattle.mp_movie.specs.WholeParts.{AreTrackParts};
 
@@ -24,6 +24,22 @@ fn track_of(
         track = with_sample(rt, track, delta, 0, true, &[piece(0, 0, *size)])?;
     }
     Ok(track)
+}
+
+// The movie of these three.
+fn movie_of_three(alloc: Global, one: Track, other: Track, third: Track) -> Result<Movie, AllocError>
+    requires one { AreTrackParts plain_scale one }
+    requires other { AreTrackParts plain_scale other }
+    requires third { AreTrackParts plain_scale third }
+    requires first { one.number ≡ 1 }
+    requires second { other.number ≡ 2 }
+    requires last { third.number ≡ 3 }
+{
+    let mut tracks = Vec::new(alloc);
+    tracks.push(one)?;
+    tracks.push(other)?;
+    tracks.push(third)?;
+    movie_of_all(alloc, tracks)
 }
 
 // The chunks of a file: the position of the track, the first sample, how many, and the place.
@@ -53,7 +69,8 @@ fn check_two(
     size: u32,
     rows: &[Row],
     wide: bool,
-) -> Result<(), AllocError> {
+) -> Result<(), AllocError>
+{
     let one = track_of(rt, alloc, 1, 1024, &[size])?;
     let other = track_of(rt, alloc, 2, 1024, &[2000])?;
     let movie = movie_of_two(alloc, one, other)?;
@@ -70,6 +87,40 @@ fn two_long_tracks(rt: HostRuntime) -> Result<(), Fail> {
     check_two(&rt, alloc, 4_294_966_287, &near, false)?;
     let far = [(0, 1, 1, 1012), (1, 1, 1, 4_294_967_300)];
     check_two(&rt, alloc, 4_294_966_288, &far, true)?;
+    Ok(())
+}
+
+// Three tracks of a sample each, of so many bytes, of one and of 2000.
+fn three_tracks(rt: &impl Abort, alloc: Global, size: u32) -> Result<Movie, AllocError> {
+    let one = track_of(rt, alloc, 1, 1024, &[size])?;
+    let other = track_of(rt, alloc, 2, 1024, &[1])?;
+    let third = track_of(rt, alloc, 3, 1024, &[2000])?;
+    movie_of_three(alloc, one, other, third)
+}
+
+// Their chunks stand there, the second and the third with places of 64 bits or not.
+fn check_three(
+    rt: &impl Abort,
+    alloc: Global,
+    size: u32,
+    rows: &[Row],
+    wide: bool,
+) -> Result<(), AllocError>
+{
+    let movie = three_tracks(rt, alloc, size)?;
+    let plan = plan_of(alloc, &movie, 0)?;
+    check_layout(rt, &plan, rows, &[false, wide, wide]);
+    Ok(())
+}
+
+// Where the third track's place needs 64 bits, its place takes the second's above 32 too.
+#[test]
+fn three_long_tracks(rt: HostRuntime) -> Result<(), Fail> {
+    let alloc = rt.alloc();
+    let near = [(0, 1, 1, 1432), (1, 1, 1, 4_294_967_294), (2, 1, 1, 4_294_967_295)];
+    check_three(&rt, alloc, 4_294_965_862, &near, false)?;
+    let far = [(0, 1, 1, 1440), (1, 1, 1, 4_294_967_303), (2, 1, 1, 4_294_967_304)];
+    check_three(&rt, alloc, 4_294_965_863, &far, true)?;
     Ok(())
 }
 
@@ -116,7 +167,8 @@ fn check_head(
     sizes: &[u32],
     head: &[u8],
     payload: u64,
-) -> Result<(), AllocError> {
+) -> Result<(), AllocError>
+{
     let track = track_of(rt, alloc, 1, 1024, sizes)?;
     let movie = movie_of(alloc, track)?;
     let plan = plan_of(alloc, &movie, 0)?;
@@ -137,13 +189,7 @@ fn long_payloads(rt: HostRuntime) -> Result<(), Fail> {
     let long = b"\x00\x00\x00\x01mdat\x00\x00\x00\x01\x00\x00\x00\x08";
     check_head(&rt, alloc, &[4_294_967_288, 0], long, 4_294_967_288)?;
     let both = b"\x00\x00\x00\x01mdat\x00\x00\x00\x02\x00\x00\x00\x0e";
-    check_head(
-        &rt,
-        alloc,
-        &[4_294_967_295, 4_294_967_295],
-        both,
-        8_589_934_590,
-    )?;
+    check_head(&rt, alloc, &[4_294_967_295, 4_294_967_295], both, 8_589_934_590)?;
     Ok(())
 }
 

@@ -1,0 +1,7 @@
+use Rattle.std.proofs.Common.{◌≡◌, length}
+use Rattle.mp_movie.specs.Placed.{plain_scale}
+use Rattle.mp_movie.specs.WholeParts.{AreTrackParts}
+use Rattle.mp_interleave.proofs.tests.track_of.Given as goal
+
+abbrev pub invariant-loop-item : goal.invariant-loop-item
+invariant-loop-item g l = AreTrackParts plain_scale l.track × (length l.track.entries ≡ 2) × (l.track.number ≡ l.number)
