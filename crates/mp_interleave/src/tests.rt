@@ -3,7 +3,8 @@ ghost use Rattle.std.specs.Prelude.{◌≡◌, ◌≢◌, ◌≤◌, ◌<◌, �
 ghost use Rattle.mp_boxes.specs.Boxes.{IsBytes};
 ghost use Rattle.mp_entries.specs.Entry.{IsEntry};
 ghost use Rattle.mp_movie.specs.Placed.{plain_scale};
-ghost use Rattle.mp_movie.specs.WholeParts.{AreTrackParts};
+ghost use Rattle.mp_movie.specs.WholeParts.{AreParts, AreTrackParts};
+ghost use Rattle.mp_timeline.specs.Plain.{plain_movie_head};
 
 use super::*;
 use mp_columns::Column;
@@ -96,15 +97,9 @@ fn track_of(
 }
 
 // The movie of these tracks, of 1000 ticks a second.
-fn movie_of(alloc: Global, one: Track, other: Track) -> Result<Movie, AllocError>
-    requires one { AreTrackParts plain_scale one }
-    requires other { AreTrackParts plain_scale other }
-    requires apart { other.number ≢ one.number }
+fn movie_of_all(alloc: Global, tracks: Vec<Track>) -> Result<Movie, AllocError>
+    requires { AreParts (record { scale = plain_scale; head = plain_movie_head; tracks = tracks.items }) }
 {
-    plain_heads_fit();
-    let mut tracks = Vec::new(alloc);
-    tracks.push(one)?;
-    tracks.push(other)?;
     let parts = MovieParts {
         scale: 1000,
         head: MovieHead::plain(alloc),
@@ -114,6 +109,19 @@ fn movie_of(alloc: Global, one: Track, other: Track) -> Result<Movie, AllocError
         return Err(AllocError);
     }
     Ok(Movie::from_parts(parts))
+}
+
+// The movie of these two.
+fn movie_of(alloc: Global, one: Track, other: Track) -> Result<Movie, AllocError>
+    requires one { AreTrackParts plain_scale one }
+    requires other { AreTrackParts plain_scale other }
+    requires apart { other.number ≢ one.number }
+{
+    plain_heads_fit();
+    let mut tracks = Vec::new(alloc);
+    tracks.push(one)?;
+    tracks.push(other)?;
+    movie_of_all(alloc, tracks)
 }
 
 // The chunk of a track, from that sample on, of so many.
@@ -202,7 +210,10 @@ fn two_tracks_in_turn(rt: HostRuntime) -> Result<(), Fail> {
 #[test]
 fn borders_and_entries(rt: HostRuntime) -> Result<(), Fail> {
     let rows: [(u32, &[Row]); 3] = [
-        (500, &[(1, 1, 1), (1, 2, 1), (1, 3, 1), (1, 4, 2), (1, 6, 1)]),
+        (
+            500,
+            &[(1, 1, 1), (1, 2, 1), (1, 3, 1), (1, 4, 2), (1, 6, 1)],
+        ),
         (0, &[(1, 1, 1), (1, 2, 2), (1, 4, 3)]),
         (501, &[(1, 1, 1), (1, 2, 2), (1, 4, 2), (1, 6, 1)]),
     ];
