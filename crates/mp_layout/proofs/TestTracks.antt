@@ -1,5 +1,5 @@
 -- The movies of the tests are well formed, and their folder holds their pieces.
-use Rattle.std.proofs.Common.{◌≡◌, ℕ, zero, suc, ◌-◌, ◌<◌, ◌≤◌, List, [], ◌∷◌, ◌^◌, All, length, map, get_or, None, refl, sym, ap, subst, ◌∙◌, codes, inl, inr, arith}
+use Rattle.std.proofs.Common.{◌≡◌, ℕ, zero, suc, ◌-◌, ◌<◌, ◌≤◌, List, [], ◌∷◌, ◌^◌, length, map, get_or, None, refl, sym, ap, subst, ◌∙◌, codes, inl, inr, arith}
 use Rattle.std.specs.List.{AllByRecursion}
 use Rattle.std.proofs.lemmas.List.{get_or-map, length-map}
 use Rattle.mp_ports.specs.Folder.{FolderState, OpenedFile, opened_at}

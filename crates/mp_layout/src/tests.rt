@@ -17,7 +17,9 @@ use super::{FilePlan, plan_file};
 use mp_columns::Column;
 use mp_entries::{EsdsEntry, esds_entry};
 use mp_interleave::chunk_plan;
-use mp_movie::{Movie, MovieParts, Piece, Track, a_sample_follows, check_fits, pieces_len, plain_heads_fit};
+use mp_movie::{
+    Movie, MovieParts, Piece, Track, a_sample_follows, check_fits, pieces_len, plain_heads_fit,
+};
 use mp_timeline::{EntryBytes, MovieHead, TrackHead};
 use std::alloc::{AllocError, Global};
 use std::process::Abort;

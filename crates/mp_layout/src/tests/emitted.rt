@@ -63,8 +63,7 @@ fn written_of(
     millis: u32,
     room: usize,
     failing: u64,
-) -> Result<(MemFolder, Result<(), EmitFail>, u64), AllocError>
-{
+) -> Result<(MemFolder, Result<(), EmitFail>, u64), AllocError> {
     let plan = plan_of(alloc, movie, millis)?;
     let mut folder = folder_of(alloc, failing)?;
     check_tracks(rt, &folder, 2, movie.tracks());
@@ -86,8 +85,7 @@ pub fn check_file(
     movie: &Movie,
     pieces: &[&[u8]],
     len: u64,
-) -> Result<(), AllocError>
-{
+) -> Result<(), AllocError> {
     for room in [1, 2, 3, 7, 65_536] {
         let (folder, result, planned) = written_of(rt, alloc, movie, 0, room, 0)?;
         assert!(rt; result.is_ok());
@@ -110,8 +108,7 @@ pub fn check_faults(
     alloc: Global,
     movie: &Movie,
     room: usize,
-) -> Result<(), AllocError>
-{
+) -> Result<(), AllocError> {
     let (whole, result, _) = written_of(rt, alloc, movie, 0, room, 0)?;
     assert!(rt; result.is_ok());
     let mut reads: u64 = 0;

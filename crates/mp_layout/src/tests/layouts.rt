@@ -27,7 +27,12 @@ fn track_of(
 }
 
 // The movie of these three.
-fn movie_of_three(alloc: Global, one: Track, other: Track, third: Track) -> Result<Movie, AllocError>
+fn movie_of_three(
+    alloc: Global,
+    one: Track,
+    other: Track,
+    third: Track,
+) -> Result<Movie, AllocError>
     requires one { AreTrackParts plain_scale one }
     requires other { AreTrackParts plain_scale other }
     requires third { AreTrackParts plain_scale third }
@@ -69,8 +74,7 @@ fn check_two(
     size: u32,
     rows: &[Row],
     wide: bool,
-) -> Result<(), AllocError>
-{
+) -> Result<(), AllocError> {
     let one = track_of(rt, alloc, 1, 1024, &[size])?;
     let other = track_of(rt, alloc, 2, 1024, &[2000])?;
     let movie = movie_of_two(alloc, one, other)?;
@@ -105,8 +109,7 @@ fn check_three(
     size: u32,
     rows: &[Row],
     wide: bool,
-) -> Result<(), AllocError>
-{
+) -> Result<(), AllocError> {
     let movie = three_tracks(rt, alloc, size)?;
     let plan = plan_of(alloc, &movie, 0)?;
     check_layout(rt, &plan, rows, &[false, wide, wide]);
@@ -117,9 +120,17 @@ fn check_three(
 #[test]
 fn three_long_tracks(rt: HostRuntime) -> Result<(), Fail> {
     let alloc = rt.alloc();
-    let near = [(0, 1, 1, 1432), (1, 1, 1, 4_294_967_294), (2, 1, 1, 4_294_967_295)];
+    let near = [
+        (0, 1, 1, 1432),
+        (1, 1, 1, 4_294_967_294),
+        (2, 1, 1, 4_294_967_295),
+    ];
     check_three(&rt, alloc, 4_294_965_862, &near, false)?;
-    let far = [(0, 1, 1, 1440), (1, 1, 1, 4_294_967_303), (2, 1, 1, 4_294_967_304)];
+    let far = [
+        (0, 1, 1, 1440),
+        (1, 1, 1, 4_294_967_303),
+        (2, 1, 1, 4_294_967_304),
+    ];
     check_three(&rt, alloc, 4_294_965_863, &far, true)?;
     Ok(())
 }
@@ -167,8 +178,7 @@ fn check_head(
     sizes: &[u32],
     head: &[u8],
     payload: u64,
-) -> Result<(), AllocError>
-{
+) -> Result<(), AllocError> {
     let track = track_of(rt, alloc, 1, 1024, sizes)?;
     let movie = movie_of(alloc, track)?;
     let plan = plan_of(alloc, &movie, 0)?;
@@ -189,7 +199,13 @@ fn long_payloads(rt: HostRuntime) -> Result<(), Fail> {
     let long = b"\x00\x00\x00\x01mdat\x00\x00\x00\x01\x00\x00\x00\x08";
     check_head(&rt, alloc, &[4_294_967_288, 0], long, 4_294_967_288)?;
     let both = b"\x00\x00\x00\x01mdat\x00\x00\x00\x02\x00\x00\x00\x0e";
-    check_head(&rt, alloc, &[4_294_967_295, 4_294_967_295], both, 8_589_934_590)?;
+    check_head(
+        &rt,
+        alloc,
+        &[4_294_967_295, 4_294_967_295],
+        both,
+        8_589_934_590,
+    )?;
     Ok(())
 }
 
