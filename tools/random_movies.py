@@ -9,6 +9,7 @@ one window, has the program write it in another (`-add IN -inter MILLISECONDS -o
 byte with the file that `layout.py` lays out. It ends at the first that differs, with status 1 and the two files kept.
 """
 import random
+import shutil
 import struct
 import subprocess
 import sys
@@ -100,7 +101,7 @@ def main(program, count, first=0):
             if file.read() != file_of(movie, payloads, after):
                 sys.exit(f"seed {seed}: {target} is not the file in windows of {after} ms")
         written += 1
-        subprocess.run(["rm", "-r", folder], check=True)
+        shutil.rmtree(folder)
     print(f"{written} movies are laid out alike, {refused} are refused")
 
 
