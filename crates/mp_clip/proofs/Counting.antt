@@ -1,14 +1,13 @@
 -- What is counted of a piece belongs to what is counted of all.
-use Rattle.std.proofs.Common.{◌≡◌, ℕ, zero, suc, ◌+◌, ◌-◌, ◌*◌, ◌/◌, ◌%◌, ◌<◌, ◌≤◌, min, max, List, [], ◌∷◌, ◌++◌, Option, Some, None, refl, sym, ap, subst, ◌∙◌, arith}
+use Rattle.std.proofs.Common.{◌≡◌, ℕ, ◌+◌, ◌-◌, ◌*◌, ◌/◌, ◌%◌, ◌<◌, max, List, [], ◌∷◌, ◌++◌, Option, Some, None, refl, sym, ap, subst, ◌∙◌, arith}
 use Rattle.std.specs.Int.{◌∣◌}
-use Rattle.std.specs.List.{AllByRecursion}
 use Rattle.std.proofs.Math.Nat.{dvd_trans, dvd-mul_left_of_dvd, dvd-add, dvd-sub, mul_assoc, add-mul, div-add-mod', pos_of_dvd_of_pos}
 use Rattle.std.proofs.lemmas.List.Sums.{sum_by-cons}
 use Rattle.mp_frac.specs.Divisors.{IsGreatestCommon}
 use Rattle.mp_movie.specs.Durations.{greatest}
 use Rattle.mp_clip.specs.declared.cut.Cut.{Cut}
 use Rattle.mp_clip.specs.declared.tally.Tally.{Tally}
-use Rattle.mp_clip.specs.Cut.{cut_starts, cut_lengths, cut_total, listed, in_front}
+use Rattle.mp_clip.specs.Cut.{cut_starts, cut_lengths, cut_total, listed}
 use Rattle.mp_clip.specs.Shape.{least}
 use Rattle.mp_clip.specs.Counted.{IsCounted, lower}
 

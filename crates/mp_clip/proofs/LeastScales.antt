@@ -1,5 +1,5 @@
 -- The least multiple of a scale in which numbers of parts are whole.
-use Rattle.std.proofs.Common.{◌≡◌, ℕ, ◌+◌, ◌*◌, ◌/◌, ◌<◌, ◌≤◌, Bool, true, false, cond, leb, List, [], ◌∷◌, map, Option, Some, None, pos, refl, sym, ap, subst, ◌∙◌, arith}
+use Rattle.std.proofs.Common.{◌≡◌, ℕ, ◌*◌, ◌/◌, ◌<◌, ◌≤◌, Bool, true, false, cond, leb, List, [], ◌∷◌, Option, Some, None, pos, refl, sym, ap, subst, ◌∙◌, arith}
 use Rattle.std.specs.Int.{◌∣◌}
 use Rattle.std.specs.List.{AllByRecursion}
 use Rattle.std.proofs.Math.Nat.{dvd-mul_right, dvd_refl, div-mul_cancel, mul-div_cancel', dvd_of_mul-dvd-mul_right, mul-dvd-mul_left, mul-dvd-mul_right, mul_comm, mul_assoc, pos_of_dvd_of_pos, le_of_dvd}
@@ -10,7 +10,7 @@ use Rattle.mp_frac.specs.Time.{IsWhole, in_ticks}
 use Rattle.mp_frac.specs.Law.{WholenessIsDivision}
 use Rattle.mp_frac.specs.Divisors.{IsGreatestCommon, most, up_to}
 use Rattle.mp_timeline.specs.Same.{IsSameTicks}
-use Rattle.mp_movie.specs.Settling.{Serves, IsLeastServing, Settles}
+use Rattle.mp_movie.specs.Settling.{IsLeastServing, Settles}
 use Rattle.mp_clip.specs.Clipped.{as_times}
 use Rattle.mp_clip.proofs.Measures.{times_each}
 
@@ -113,3 +113,21 @@ module _ (whole : WholenessIsDivision) (scale parts c : ℕ) (some_scale : 0 < s
           where
             turn : (q r : ℕ) → q * g * c * (scale * r) ≡ q * (r * g * scale * c)
             turn q r = omega arith
+
+-- the same for numbers of parts, where a part is the unit
+pub divisors_settle : WholenessIsDivision → (scale parts g : ℕ) (numbers : List ℕ) → 0 < scale → 0 < parts → IsGreatestCommon (parts ∷ numbers) g
+    → Settles scale (as_times (scale * parts) numbers) (up_to most (scale * (parts / g)))
+divisors_settle whole scale parts g numbers some_scale some_parts common =
+    subst (λ (times : List Frac). Settles scale times (up_to most (scale * (parts / g)))) (same numbers) (by (up_to most (scale * (parts / g))) refl)
+  where
+    by : (found : Option ℕ) → up_to most (scale * (parts / g)) ≡ found → Settles scale (as_times (parts * scale * 1) (times_each 1 numbers)) found
+    by None e = settles_none whole scale parts 1 some_scale some_parts (omega arith) numbers g common e
+    by (Some found) e = settles_some whole scale parts 1 some_scale some_parts (omega arith) numbers g common found e
+
+    same : (ns : List ℕ) → as_times (parts * scale * 1) (times_each 1 ns) ≡ as_times (scale * parts) ns
+    same [] = refl
+    same (n ∷ ns) =
+        let unit : parts * scale * 1 ≡ scale * parts = omega arith in
+        let one : n * 1 ≡ n = omega arith in
+        ap (λ (times : List Frac). in_ticks (pos (n * 1)) (parts * scale * 1) ∷ times) (same ns)
+        ∙ (ap (λ (x : ℕ). in_ticks (pos (n * 1)) x ∷ as_times (scale * parts) ns) unit ∙ ap (λ (x : ℕ). in_ticks (pos x) (scale * parts) ∷ as_times (scale * parts) ns) one)

@@ -1,5 +1,5 @@
 -- What is whole in a scale is whole in its multiples.
-use Rattle.std.proofs.Common.{◌≡◌, ℕ, ◌+◌, ◌*◌, ◌^◌, ◌<◌, ◌≤◌, max, List, [], ◌∷◌, map, pos, refl, sym, ap, subst, ◌∙◌, arith}
+use Rattle.std.proofs.Common.{◌≡◌, ℕ, ◌*◌, ◌^◌, ◌<◌, ◌≤◌, max, List, [], ◌∷◌, map, pos, sym, ap, subst, ◌∙◌, arith}
 use Rattle.std.specs.Int.{◌∣◌}
 use Rattle.std.specs.List.{AllByRecursion}
 use Rattle.std.proofs.Math.Nat.{dvd-mul_right_of_dvd, mul_assoc}
@@ -11,7 +11,7 @@ use Rattle.mp_edits.specs.Segments.{duration, total}
 use Rattle.mp_movie.specs.Durations.{greatest}
 use Rattle.mp_clip.specs.declared.shape.ClipShape.{ClipShape}
 use Rattle.mp_clip.specs.Clipped.{as_times, starts, CanTell}
-use Rattle.mp_clip.specs.Shape.{IsShape, least}
+use Rattle.mp_clip.specs.Shape.{IsShape}
 
 times_some : (a b : ℕ) → 0 < a → 0 < b → 0 < a * b
 times_some a b p q = grind arith

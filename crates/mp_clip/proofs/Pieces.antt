@@ -4,7 +4,7 @@ use Rattle.std.specs.Prelude.{unsigned_abs}
 use Rattle.std.proofs.lemmas.Bool.{cases_lt, lt-ltb, le-ltb}
 use Rattle.std.proofs.lemmas.List.{drop_more, drop_all}
 use Rattle.std.proofs.lemmas.List.Sums.{sum_by-cons}
-use Rattle.std.proofs.Math.Nat.{mul_comm, mul_assoc, add-mul}
+use Rattle.std.proofs.Math.Nat.{mul_assoc, add-mul}
 use Rattle.mp_frac.specs.declared.time.Frac.{Frac}
 use Rattle.mp_timeline.specs.declared.segment.Segment.{Segment}
 use Rattle.mp_timeline.specs.declared.segment.Segment.TheVariants.{Empty, Media}

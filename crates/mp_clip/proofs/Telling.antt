@@ -2,20 +2,19 @@
 use Rattle.std.proofs.Common.{◌≡◌, ℕ, ◌+◌, ◌*◌, ◌/◌, ◌%◌, ◌^◌, ◌<◌, ◌≤◌, List, [], ◌∷◌, ◌++◌, map, Option, Some, None, pos, refl, sym, ap, subst, ◌∙◌, arith, inl, inr}
 use Rattle.std.specs.Prelude.{IfSome}
 use Rattle.std.specs.Int.{◌∣◌}
-use Rattle.std.specs.List.{AllByRecursion, AllZip}
-use Rattle.std.proofs.Math.Nat.{dvd_of_mul-dvd-mul_right, div-mul_cancel, add-mul-div_right, add-mul, mul_comm, mul_assoc, div-add-mod', div-lt_iff_lt-mul}
+use Rattle.std.specs.List.{AllByRecursion}
+use Rattle.std.proofs.Math.Nat.{dvd_of_mul-dvd-mul_right, div-mul_cancel, add-mul-div_right, add-mul, mul_assoc, div-add-mod', div-lt_iff_lt-mul}
 use Rattle.std.proofs.lemmas.Bool.{cases_lt}
 use Rattle.std.proofs.lemmas.List.Sums.{sum_by-cons}
 use Rattle.mp_frac.specs.Time.{IsWhole, in_ticks}
 use Rattle.mp_frac.specs.Law.{WholenessIsDivision}
 use Rattle.mp_timeline.specs.declared.segment.Segment.{Segment}
 use Rattle.mp_timeline.specs.declared.segment.Segment.TheVariants.{Empty, Media}
-use Rattle.mp_timeline.specs.Same.{IsSameTicks, IsSameSegment}
-use Rattle.mp_edits.specs.Segments.{duration, total}
+use Rattle.mp_timeline.specs.Same.{IsSameTicks}
 use Rattle.mp_clip.specs.declared.cut.Cut.{Cut}
 use Rattle.mp_clip.specs.declared.cut.Scales.{Scales}
-use Rattle.mp_clip.specs.Clipped.{as_times, starts, CanTell, Tells}
-use Rattle.mp_clip.specs.Cut.{piece_of, segment_from, unit_of, cut_starts, cut_lengths, cut_total, listed, IsExact, CanTellCut, TellsCut, LeadsTo, in_front}
+use Rattle.mp_clip.specs.Clipped.{as_times, CanTell, Tells}
+use Rattle.mp_clip.specs.Cut.{piece_of, unit_of, cut_starts, cut_lengths, cut_total, listed, IsExact, CanTellCut, TellsCut, LeadsTo}
 use Rattle.mp_clip.proofs.Measures.{times_each, starts_are, durations_are, total_is}
 
 times_some : (a b : ℕ) → 0 < a → 0 < b → 0 < a * b

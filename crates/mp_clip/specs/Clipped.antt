@@ -1,5 +1,5 @@
 -- The pieces of an edit list from one time up to another, in ticks of other scales (ISO/IEC 14496-12, 8.6.6).
-use Rattle.std.specs.Prelude.{ℕ, ◌*◌, ◌^◌, ◌<◌, ◌≤◌, pos, ◌≤ℤ◌, unsigned_abs, List, [], ◌∷◌, map}
+use Rattle.std.specs.Prelude.{ℕ, ◌*◌, ◌^◌, ◌<◌, pos, ◌≤ℤ◌, unsigned_abs, List, [], ◌∷◌, map}
 use Rattle.std.specs.List.{AllZip, AllByRecursion}
 use Rattle.mp_frac.specs.declared.time.Frac.{Frac}
 use Rattle.mp_frac.specs.Time.{IsInRange, IsWhole, in_ticks}

@@ -1,5 +1,5 @@
 -- What is counted of pieces, one after another.
-use Rattle.std.specs.Prelude.{◌≡◌, ℕ, ◌+◌, ◌<◌, min, max, List, [], ◌∷◌, ◌++◌, Option, Some, None}
+use Rattle.std.specs.Prelude.{◌≡◌, ℕ, ◌+◌, ◌<◌, min, max, List, ◌∷◌, ◌++◌, Option, Some, None}
 use Rattle.mp_frac.specs.Divisors.{IsGreatestCommon}
 use Rattle.mp_movie.specs.Durations.{greatest}
 use Rattle.mp_clip.specs.declared.cut.Cut.{Cut}

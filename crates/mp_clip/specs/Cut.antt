@@ -1,5 +1,5 @@
 -- Pieces without products above 128 bits: a start in parts of a tick of the media, a length in parts of a tick of the movie.
-use Rattle.std.specs.Prelude.{◌≡◌, ℕ, ◌+◌, ◌-◌, ◌*◌, ◌^◌, ◌<◌, ◌≤◌, min, nat_lt, false, IfSome, if◌then◌else◌, List, [], ◌∷◌, ◌++◌, map, Option, Some, None, sum_by}
+use Rattle.std.specs.Prelude.{◌≡◌, ℕ, ◌+◌, ◌-◌, ◌*◌, ◌^◌, ◌<◌, min, nat_lt, false, IfSome, if◌then◌else◌, List, [], ◌∷◌, ◌++◌, map, Option, Some, None, sum_by}
 use Rattle.mp_timeline.specs.declared.segment.Segment.{Segment}
 use Rattle.mp_timeline.specs.declared.segment.Segment.TheVariants.{Empty, Media}
 use Rattle.mp_timeline.specs.Same.{IsSameSegment}

@@ -1,5 +1,5 @@
 -- Which scales the pieces of an edit list need, and how far they reach.
-use Rattle.std.specs.Prelude.{ℕ, ◌<◌, ◌⊎◌, min, pos, List, [], ◌∷◌, map, Option, Some, None}
+use Rattle.std.specs.Prelude.{ℕ, ◌⊎◌, min, pos, List, [], ◌∷◌, map, Option, Some, None}
 use Rattle.mp_frac.specs.declared.time.Frac.{Frac}
 use Rattle.mp_timeline.specs.declared.segment.Segment.{Segment}
 use Rattle.mp_timeline.specs.Same.{IsSameTicks}

@@ -10,5 +10,6 @@ mod shape;
 mod tally;
 
 pub use clipping::clip;
-pub use law::shapes_can_be_told;
-pub use shape::{ClipShape, clip_shape};
+pub use law::{divisors_give_scales, shapes_can_be_told};
+pub use shape::{ClipShape, clip_shape, grown_scale};
+pub use tally::common_divisor;

@@ -102,7 +102,7 @@ fn shape_of(scales: Scales, tally: Tally) -> Option<ClipShape>
         → GivesShape scales.media scales.movie (unit_of scales) (map (piece_of scales) cuts) result }
 {
     wholeness_is_division();
-    let media_scale = match grown(
+    let media_scale = match grown_scale(
         scales.media,
         u64::from(scales.movie) * u64::from(scales.from),
         tally.starts,
@@ -110,7 +110,7 @@ fn shape_of(scales: Scales, tally: Tally) -> Option<ClipShape>
         Some(scale) => scale,
         None => return None,
     };
-    let movie_scale = match grown(
+    let movie_scale = match grown_scale(
         scales.movie,
         u64::from(scales.from) * u64::from(scales.to),
         tally.lengths,
@@ -139,7 +139,7 @@ fn or_zero(number: Option<u128>) -> u128
 }
 
 /// A scale times the parts that a common divisor leaves of its tick; `None` where that is above 4,294,967,295.
-fn grown(scale: u32, parts: u64, divisor: u64) -> Option<u32>
+pub fn grown_scale(scale: u32, parts: u64, divisor: u64) -> Option<u32>
     requires { 0 < divisor }
     ensures { result ≡ up_to most (scale * (parts / divisor)) }
 {

@@ -20,8 +20,8 @@ pub(crate) struct Tally {
     pub(crate) greatest: u128,
 }
 
-/// The greatest common divisor of the two.
-fn common(divisor: u64, number: u128) -> u64
+/// The greatest common divisor of the two numbers.
+pub fn common_divisor(divisor: u64, number: u128) -> u64
     requires { 0 < divisor }
     ensures { IsGreatestCommon (divisor ∷ number ∷ []) result }
 {
@@ -50,7 +50,7 @@ fn with_start(tally: Tally, start: u128) -> Tally
     } }
 {
     Tally {
-        starts: common(tally.starts, start),
+        starts: common_divisor(tally.starts, start),
         least: lower(tally.least, start),
         greatest: tally.greatest.max(start),
         ..tally
@@ -65,7 +65,7 @@ fn with_length(tally: Tally, length: u128) -> Tally
     ensures counted { result ≡ record tally { lengths = result.lengths; total = tally.total + length } }
 {
     Tally {
-        lengths: common(tally.lengths, length),
+        lengths: common_divisor(tally.lengths, length),
         total: tally.total + length,
         ..tally
     }

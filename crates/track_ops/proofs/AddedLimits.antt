@@ -23,7 +23,7 @@ use Rattle.track_ops.proofs.AddedParts.{any_renumbered, many_renumbered, sum_ren
 use Rattle.track_ops.proofs.LimitsStay.{none_holds}
 use Rattle.track_ops.proofs.Lists.{any_same, none_kept, sum_same}
 
-early : (old new : ℕ) (track : PlacedTrack) → passes StartLimit (kept_in_scale old new track) ≡ passes StartLimit track
+pub early : (old new : ℕ) (track : PlacedTrack) → passes StartLimit (kept_in_scale old new track) ≡ passes StartLimit track
 early old new track = by track.edits
   where
     one : (segment : Segment) → starts_late (lasting old new segment) ≡ starts_late segment
@@ -34,7 +34,7 @@ early old new track = by track.edits
     by None = refl
     by (Some segments) = any_same starts_late (lasting old new) one segments
 
-few : (old new : ℕ) (track : PlacedTrack) → passes SegmentLimit (kept_in_scale old new track) ≡ passes SegmentLimit track
+pub few : (old new : ℕ) (track : PlacedTrack) → passes SegmentLimit (kept_in_scale old new track) ≡ passes SegmentLimit track
 few old new track = by track.edits
   where
     by : (edits : Option (List Segment)) → nat_lt most_segments (length (segments_in (option_map (map (lasting old new)) edits))) ≡ nat_lt most_segments (length (segments_in edits))

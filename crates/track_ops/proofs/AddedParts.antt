@@ -24,13 +24,13 @@ some_edits old new None some = λ same. cc
 some_edits old new (Some []) some = absurd (some refl)
 some_edits old new (Some (segment ∷ segments)) some = λ same. cc
 
-formed_track : (before old new number : ℕ) (track : PlacedTrack) → 1 ≤ number → number < 2 ^ 32 → IsWellFormedTrack before (bare_track track)
+pub formed_track : (before old new number : ℕ) (track : PlacedTrack) → 1 ≤ number → number < 2 ^ 32 → IsWellFormedTrack before (bare_track track)
     → IsWellFormedTrack new (bare_track (kept_in_scale old new (record track { number = number })))
 formed_track before old new number track some below h =
     track_stays before new (bare_track track) number track.head.flags track.head.language track.scale (option_map (map (lasting old new)) track.edits) h some below h.header.flags h.media.language h.media.some_scale
     h.media.timescale (some_edits old new track.edits h.edits)
 
-own_formed : (before old new : ℕ) (tracks : List PlacedTrack) → AllByRecursion (IsWellFormedTrack before) (map bare_track tracks) → AllByRecursion (IsWellFormedTrack new) (map bare_track (map (kept_in_scale old new) tracks))
+pub own_formed : (before old new : ℕ) (tracks : List PlacedTrack) → AllByRecursion (IsWellFormedTrack before) (map bare_track tracks) → AllByRecursion (IsWellFormedTrack new) (map bare_track (map (kept_in_scale old new) tracks))
 own_formed before old new [] all = tt
 own_formed before old new (track ∷ tracks) all = (formed_track before old new track.number track all.0.number all.0.header.number all.0, own_formed before old new tracks all.1)
 
@@ -41,7 +41,7 @@ new_formed before old new (number ∷ numbers) [] some below all = tt
 new_formed before old new (number ∷ numbers) (track ∷ tracks) some below all =
     (formed_track before old new number track some.0 below.0 all.0, new_formed before old new numbers tracks some.1 below.1 all.1)
 
-own_columns : (old new : ℕ) (tracks : List PlacedTrack) → AllByRecursion AreColumns tracks → AllByRecursion AreColumns (map (kept_in_scale old new) tracks)
+pub own_columns : (old new : ℕ) (tracks : List PlacedTrack) → AllByRecursion AreColumns tracks → AllByRecursion AreColumns (map (kept_in_scale old new) tracks)
 own_columns old new tracks all =
     all_mapped AreColumns AreColumns (kept_in_scale old new) (λ track h. columns_stay track track.number track.scale track.head (option_map (map (lasting old new)) track.edits) h) tracks all
 
@@ -55,7 +55,7 @@ pub columns_joined : (movie other : PlacedMovie) (tracks : List PlacedTrack) (nu
 columns_joined movie other tracks numbers scale own others =
     all_joined AreColumns (map (kept_in_scale movie.scale scale) movie.tracks) _ (own_columns movie.scale scale movie.tracks own) (own_columns other.scale scale (kept_renumbered numbers tracks) (new_columns numbers tracks others))
 
-own_numbers : (old new : ℕ) (tracks : List PlacedTrack) → kept_numbers (map (kept_in_scale old new) tracks) ≡ kept_numbers tracks
+pub own_numbers : (old new : ℕ) (tracks : List PlacedTrack) → kept_numbers (map (kept_in_scale old new) tracks) ≡ kept_numbers tracks
 own_numbers old new [] = refl
 own_numbers old new (track ∷ tracks) = ap (λ (numbers : List ℕ). track.number ∷ numbers) (own_numbers old new tracks)
 

@@ -114,7 +114,7 @@ renumbered_stand files (number ∷ numbers) (track ∷ tracks) =
     cons : {x y : TrackRecord} {xs ys : List TrackRecord} → x ≡ y → xs ≡ ys → x ∷ xs ≡ y ∷ ys
     cons p q = λ i. p i ∷ q i
 
-scaled_stand : (files : List (List ℕ)) (old new : ℕ) (tracks : List PlacedTrack) → map (in_movie_scale old new) (map (track_for files) tracks) ≡ map (track_for files) (map (kept_in_scale old new) tracks)
+pub scaled_stand : (files : List (List ℕ)) (old new : ℕ) (tracks : List PlacedTrack) → map (in_movie_scale old new) (map (track_for files) tracks) ≡ map (track_for files) (map (kept_in_scale old new) tracks)
 scaled_stand files old new tracks =
     sym (map_map (track_for files) (kept_in_scale old new) (in_movie_scale old new) (λ track. stands_changed files track track.number track.scale track.head (option_map (map (lasting old new)) track.edits)) tracks)
 
@@ -122,7 +122,7 @@ times_of_segments : (scale : ℕ) (segments : List Segment) → map (λ (s : Seg
 times_of_segments scale [] = refl
 times_of_segments scale (segment ∷ segments) = ap (λ (times : List Frac). in_ticks (pos (duration segment)) scale ∷ times) (times_of_segments scale segments)
 
-times_stand : (files : List (List ℕ)) (scale : ℕ) (tracks : List PlacedTrack) → flat_map (edit_times scale) (map (track_for files) tracks) ≡ kept_times scale tracks
+pub times_stand : (files : List (List ℕ)) (scale : ℕ) (tracks : List PlacedTrack) → flat_map (edit_times scale) (map (track_for files) tracks) ≡ kept_times scale tracks
 times_stand files scale [] = refl
 times_stand files scale (track ∷ tracks) =
     ap (λ (front : List Frac). front ++ flat_map (edit_times scale) (map (track_for files) tracks)) (times_of_segments scale (segments_in track.edits))

@@ -84,7 +84,7 @@ one_short old new track fits = by track.edits (leb-false (2 ^ 62) (total (segmen
 abbrev CanLastAll : ℕ → ℕ → PlacedTrack → Type 0
 CanLastAll old new track = All (CanLast old new) (segments_in track.edits)
 
-all_short : (old new : ℕ) (tracks : List PlacedTrack) → list_any (passes DurationLimit) (map (kept_in_scale old new) tracks) ≡ false → All (CanLastAll old new) tracks
+pub all_short : (old new : ℕ) (tracks : List PlacedTrack) → list_any (passes DurationLimit) (map (kept_in_scale old new) tracks) ≡ false → All (CanLastAll old new) tracks
 all_short old new [] none = All-nil (CanLastAll old new)
 all_short old new (track ∷ tracks) none =
     let both = neither (passes DurationLimit (kept_in_scale old new track)) (list_any (passes DurationLimit) (map (kept_in_scale old new) tracks)) none in

@@ -32,7 +32,7 @@ use Rattle.track_ops.proofs.LongEdits.{AreWhole, some_long}
 use Rattle.track_ops.proofs.Summaries.{all_chosen}
 
 -- where no edit list is too long, the longest isn't
-greatest_short : (tracks : List PlacedTrack) → list_any (passes DurationLimit) tracks ≡ false → greatest (map lasts tracks) < 2 ^ 62
+pub greatest_short : (tracks : List PlacedTrack) → list_any (passes DurationLimit) tracks ≡ false → greatest (map lasts tracks) < 2 ^ 62
 greatest_short [] none = omega arith
 greatest_short (track ∷ tracks) none =
     let both = neither (passes DurationLimit track) (list_any (passes DurationLimit) tracks) none in
@@ -40,7 +40,7 @@ greatest_short (track ∷ tracks) none =
     let rest = greatest_short tracks both.1 in
     omega (arith, first, rest)
 
-multiples_whole : (old new : ℕ) (segments : List Segment) → old ∣ new → AreWhole old new segments
+pub multiples_whole : (old new : ℕ) (segments : List Segment) → old ∣ new → AreWhole old new segments
 multiples_whole old new [] h = tt
 multiples_whole old new (segment ∷ segments) h = (dvd-mul_left_of_dvd old h (duration segment), multiples_whole old new segments h)
 

@@ -25,7 +25,7 @@ find_none : {X : Type 0} (p : X → Bool) (f : ℕ → X) (a n : ℕ) → ((j : 
 find_none p f a zero none = refl
 find_none p f a (suc n) none = rw (none a (omega arith) (omega arith)) (find_none p f (a + 1) n (λ j le lt. none j (omega (arith, le)) (omega (arith, lt))))
 
-both : (a b : Bool) → (a && b) ≡ true → (a ≡ true) × (b ≡ true)
+pub both : (a b : Bool) → (a && b) ≡ true → (a ≡ true) × (b ≡ true)
 both true b all = (refl, all)
 both false b all = cc
 

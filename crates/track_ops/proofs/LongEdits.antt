@@ -33,7 +33,7 @@ total_lasting old new (segment ∷ segments) whole =
     ∙ (omega (arith, first, rest) ∙ (sym (add-mul (duration segment) (total segments) new) ∙ ap (λ (x : ℕ). x * new) (sym (sum_by-cons duration segment segments)))))
 
 -- tests that hold together are equal
-same_le : (a b c d : ℕ) → (a ≤ b → c ≤ d) → (c ≤ d → a ≤ b) → nat_le a b ≡ nat_le c d
+pub same_le : (a b c d : ℕ) → (a ≤ b → c ≤ d) → (c ≤ d → a ≤ b) → nat_le a b ≡ nat_le c d
 same_le a b c d to back =
     elim (cases_lt b a) [
       | inl less ↦
@@ -44,7 +44,7 @@ same_le a b c d to back =
       | inr more ↦ le-leb a b more ∙ sym (le-leb c d (to more))
     ]
 
-one_long : (old new : ℕ) (track : PlacedTrack) → 0 < old → AreWhole old new (segments_in track.edits) → passes DurationLimit (kept_in_scale old new track) ≡ nat_le (2 ^ 62 * old) (lasts track * new)
+pub one_long : (old new : ℕ) (track : PlacedTrack) → 0 < old → AreWhole old new (segments_in track.edits) → passes DurationLimit (kept_in_scale old new track) ≡ nat_le (2 ^ 62 * old) (lasts track * new)
 one_long old new track some whole = by track.edits whole
   where
     by : (edits : Option (List Segment)) → AreWhole old new (segments_in edits)

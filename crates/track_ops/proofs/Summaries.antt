@@ -22,15 +22,15 @@ use Rattle.track_ops.proofs.JoinedScales.{all_joined}
 abbrev Times : ℕ → ℕ → ℕ → Type 0
 Times factor divisor number = divisor ∣ number * factor
 
-front_of : {A : Type 0} (P : A → Type 0) (xs ys : List A) → AllByRecursion P (xs ++ ys) → AllByRecursion P xs
+pub front_of : {A : Type 0} (P : A → Type 0) (xs ys : List A) → AllByRecursion P (xs ++ ys) → AllByRecursion P xs
 front_of P [] ys all = tt
 front_of P (x ∷ xs) ys all = (all.0, front_of P xs ys all.1)
 
-back_of : {A : Type 0} (P : A → Type 0) (xs ys : List A) → AllByRecursion P (xs ++ ys) → AllByRecursion P ys
+pub back_of : {A : Type 0} (P : A → Type 0) (xs ys : List A) → AllByRecursion P (xs ++ ys) → AllByRecursion P ys
 back_of P [] ys all = all
 back_of P (x ∷ xs) ys all = back_of P xs ys all.1
 
-each_divided : (less more : ℕ) (numbers : List ℕ) → less ∣ more → AllByRecursion (λ number. more ∣ number) numbers → AllByRecursion (λ number. less ∣ number) numbers
+pub each_divided : (less more : ℕ) (numbers : List ℕ) → less ∣ more → AllByRecursion (λ number. more ∣ number) numbers → AllByRecursion (λ number. less ∣ number) numbers
 each_divided less more [] h all = tt
 each_divided less more (number ∷ numbers) h all = (dvd_trans less h all.0, each_divided less more numbers h all.1)
 

@@ -4,6 +4,13 @@ pub mod Tracks
 pub mod Scales
 pub mod Limits
 pub mod Adding
+pub mod Ticks
+pub mod SetScales
+pub mod Delay
+pub mod Later
 pub mod Does
 pub mod Kept
 pub mod Summed
+pub mod KeptTimes
+pub mod KeptShown
+pub mod Wide

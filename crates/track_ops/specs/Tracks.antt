@@ -1,6 +1,6 @@
 -- Commands on the track of a number (this project's own): it is removed, or its head changes.
-use Rattle.std.specs.Prelude.{ℕ, Bool, not, ◌==◌, List, map, Result, Ok, Err, if◌then◌else◌}
-use Rattle.std.specs.List.{filter}
+use Rattle.std.specs.Prelude.{ℕ, Bool, not, ◌==◌, List, map, Option, Some, None, Result, Ok, Err, if◌then◌else◌}
+use Rattle.std.specs.List.{filter, find}
 use Rattle.mp_ports.specs.declared.code.Code.{Code}
 use Rattle.mp_ports.specs.declared.code.Code.TheVariants.{NoTrack}
 use Rattle.mp_timeline.specs.Movie.{TrackRecord, MovieRecord}
@@ -12,6 +12,15 @@ use Rattle.track_ops.specs.Heads.{changed, language_of}
 -- what is wanted of a movie that has a track of that number, else `NoTrack`
 abbrev pub where_there : ℕ → MovieRecord → Result MovieRecord Code → Result MovieRecord Code
 where_there number movie wanted = if is_taken (numbers_of movie.tracks) number then wanted else Err NoTrack
+
+-- what is wanted of the track that was found, else `NoTrack`
+abbrev pub where_found : (TrackRecord → Result MovieRecord Code) → Option TrackRecord → Result MovieRecord Code
+where_found wanted None = Err NoTrack
+where_found wanted (Some track) = wanted track
+
+-- what is wanted of the track of that number
+abbrev pub of_track : ℕ → (TrackRecord → Result MovieRecord Code) → MovieRecord → Result MovieRecord Code
+of_track number wanted movie = where_found wanted (find (λ track. track.number == number) movie.tracks)
 
 -- all tracks but that of the number
 abbrev pub without : ℕ → List TrackRecord → List TrackRecord

@@ -124,7 +124,7 @@ fn joined_scale(
 }
 
 /// Ticks a second of the movie.
-fn scale_of(movie: &Movie) -> u32
+pub(crate) fn scale_of(movie: &Movie) -> u32
     ensures scale { result ≡ movie.now.scale }
     ensures some { 0 < result }
 {
@@ -182,7 +182,7 @@ fn limit_at(
 }
 
 /// Whether so many ticks of the old scale are 2^62 or more of the new one.
-fn lasts_long(ticks: u64, old: u32, new: u32) -> bool
+pub(crate) fn lasts_long(ticks: u64, old: u32, new: u32) -> bool
     ensures { result ≡ nat_le (2 ^ 62 * old) (ticks * new) }
 {
     u128::from(ticks) * u128::from(new) >= (1 << 62) * u128::from(old)

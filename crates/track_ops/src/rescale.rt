@@ -10,7 +10,7 @@ use mp_movie::Track;
 use mp_timeline::Segment;
 
 /// So many ticks of the old scale, in ticks of the new one.
-fn in_scale(old: u32, new: u32, ticks: u64) -> u64
+pub(crate) fn in_scale(old: u32, new: u32, ticks: u64) -> u64
     requires some { 0 < old }
     requires short { in_scale old new ticks < 2 ^ 64 }
     ensures { result ≡ in_scale old new ticks }

@@ -69,7 +69,7 @@ fn with_track(summary: Summary, track: &Track) -> Summary
 }
 
 /// The segments of the track's edits.
-fn segments_in(track: &Track) -> &[Segment]
+pub(crate) fn segments_in(track: &Track) -> &[Segment]
     ensures { result.now ≡ segments_in track.now.edits }
 {
     match &track.edits {

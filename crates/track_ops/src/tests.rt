@@ -3,7 +3,8 @@
 use crate::heads::{HeadChange, change_all};
 use crate::numbers::all_numbers;
 use crate::removal::keep_others;
-use crate::{Choice, add_tracks, remove};
+use crate::set_scale::fault_of;
+use crate::{Choice, add_tracks, remove, set_movie_scale, set_track_scale};
 use mp_movie::{Movie, Track};
 use mp_ports::{Bad, Code, Fail as Refusal, NoMemory};
 use mp_timeline::TrackHead;
@@ -107,6 +108,39 @@ fn no_track_of_an_empty_movie_is_chosen(rt: HostRuntime) -> Result<(), Fail> {
     match add_tracks(rt.alloc(), &mut movie, other, Choice::All) {
         Err((Refusal::Bad(bad), _)) => assert_eq!(rt; bad, Bad::at(Code::NoTrack, 0)),
         _ => assert!(rt; false),
+    }
+    Ok(())
+}
+
+#[test]
+fn scales_of_an_empty_movie(rt: HostRuntime) -> Result<(), Fail> {
+    let mut movie = Movie::new(rt.alloc());
+    let refused = Err(Bad::at(Code::NoTrack, 0));
+    assert_eq!(rt; set_track_scale(&mut movie, 1, 600), refused);
+    assert_eq!(rt; set_movie_scale(&mut movie, 600), Ok(()));
+    assert_eq!(rt; movie.scale(), 600);
+    Ok(())
+}
+
+/// The scale of a track, the duration and the offset of its one sample, and a scale that it gets.
+type Row = (u32, u32, i64, u32, Option<Code>);
+
+#[test]
+fn scales_that_a_track_gets(rt: HostRuntime) -> Result<(), Fail> {
+    let rows: [Row; 6] = [
+        (44100, 1024, 0, 88200, None),
+        (44100, 1024, 0, 1000, Some(Code::NotWhole)),
+        (1000, 1000, 1, 1, Some(Code::NotWhole)),
+        (1000, 1000, -1000, 1, None),
+        (1, 2, 0, 4_294_967_295, Some(Code::DeltaLimit)),
+        (1, 1, -1, 4_294_967_295, Some(Code::OffsetLimit)),
+    ];
+    for (scale, delta, offset, new, wanted) in rows {
+        let head = TrackHead::plain(rt.alloc(), *b"vide")?;
+        let mut track = Track::new(rt.alloc(), 1, head, scale, Vec::new(rt.alloc()));
+        track.push_sample(delta, offset, true, 1, &[])?;
+        assert!(rt; track.scale > 0);
+        assert_eq!(rt; fault_of(&track, new), wanted);
     }
     Ok(())
 }

@@ -1,9 +1,7 @@
-use Rattle.std.proofs.Common.{◌≡◌, ◌*◌, ◌<◌, List, sym, subst, arith}
-use Rattle.std.specs.Prelude.{unsigned_abs}
+use Rattle.std.proofs.Common.{List, subst}
 use Rattle.mp_timeline.specs.declared.segment.Segment.{Segment}
 use Rattle.mp_clip.specs.declared.cut.Scales.{Scales}
 use Rattle.mp_clip.specs.Clipped.{CanTell, unit}
-use Rattle.mp_clip.specs.Cut.{cuts_of, unit_of}
 use Rattle.mp_clip.proofs.Pieces.{clipped_is}
 use Rattle.mp_clip.proofs.Telling.{can_tell, unit_some}
 use Rattle.mp_clip.proofs.clipping.clip.Goals as goal
