@@ -45,7 +45,7 @@ no_memory_ends (Absent command) old new before after = λ read. inr refl
 at_least : (least n : ℕ) → n ≡ least → least ≤ n
 at_least least n is = omega (arith, is)
 
-rose_by : (before now : ℕ) → now ≡ after_fault before → Rose before now
+pub rose_by : (before now : ℕ) → now ≡ after_fault before → Rose before now
 rose_by before now is = at_least (after_fault before) now is
 
 -- where there is no movie, what the job comes to decides how it ends

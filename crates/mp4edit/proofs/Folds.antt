@@ -1,5 +1,5 @@
 -- The options so far, and those that are left.
-use Rattle.std.proofs.Common.{◌≡◌, ℕ, zero, suc, ◌+◌, ◌-◌, ◌^◌, ◌<◌, ◌≤◌, List, [], ◌∷◌, ◌++◌, map, take, drop, get_or, add-one, length, IfSome, OnOk, Option, Some, None, Result, Ok, Err, refl, sym, subst, ap, ◌∙◌, arith}
+use Rattle.std.proofs.Common.{◌≡◌, ℕ, zero, suc, ◌+◌, ◌*◌, ◌-◌, ◌^◌, ◌<◌, ◌≤◌, List, [], ◌∷◌, ◌++◌, map, take, drop, get_or, add-one, length, IfSome, OnOk, Option, Some, None, Result, Ok, Err, refl, sym, subst, ap, ◌∙◌, arith}
 use Rattle.mp_ports.specs.declared.code.Code.{Code}
 use Rattle.mp_ports.specs.declared.fault.Bad.{Bad as Refused}
 use Rattle.mp_ports.specs.declared.fault.Fail.{Fail}
@@ -14,11 +14,13 @@ use Rattle.mp_movie.specs.StandsFor.{Hold, stands_for}
 use Rattle.track_ops.specs.declared.chosen.Choice.{Choice}
 use Rattle.track_ops.specs.Adding.{add}
 use Rattle.track_ops.specs.Does.{Adds, Does}
-use Rattle.mp_words.specs.Jobs.{CommandRecord}
+use Rattle.mp_words.specs.Jobs.{Asked, CommandRecord}
 use Rattle.mp4edit.specs.declared.stop.Stop.{Stop}
-use Rattle.mp4edit.specs.Names.{OpensAll, OpensFront, reads}
+use Rattle.mp4edit.specs.Names.{NeedAll, NeedsAll, names_of, reads}
 use Rattle.mp4edit.specs.Outcome.{Outcome, Absent, Movie, Refusal, add_outcome, and_then, applied, folded, input, no_movie, outcome_of, step}
-use Rattle.mp4edit.specs.Reading.{AllTold, Gives, KeepsRest, of_done, of_fail, told_files}
+use Rattle.mp4edit.specs.Reading.{AllTold, Gives, OpensFiles, of_done, of_fail, told_files}
+use Rattle.mp4edit.proofs.FilesInTurn.{opens_as, opens_nothing, opens_on, stops_as, stops_first, stops_on, then_fails}
+use Rattle.mp4edit.proofs.NamesInTurn.{reads-at, reads-next, take_all_commands}
 use Rattle.mp4edit.proofs.ToldFiles.{same_sizes, sizes_more, told_more}
 
 -- so many commands are done: with those that are left the movie comes to what they all come to, and their files were opened
@@ -26,8 +28,7 @@ pub record FoldsTo (commands : List CommandRecord) (done : ℕ) (movie : PlacedM
   pub left : IfSome old.held (λ files. folded files commands no_movie ≡ folded files (drop done commands) (stands_for (told_files now) movie))
   pub told : IfSome old.held (λ _. AllTold now)
   pub held : Hold (sizes_of now) movie
-  pub all : OpensAll (reads (take done commands)) done old now
-  pub rest : now ≡ record old { opened = now.opened }
+  pub folder : OpensFiles {A = Unit} (Ok tt) (reads (take done commands)) (3 * done) (NeedAll commands) old now
 
 drop_at : (commands : List CommandRecord) (done : ℕ) (command : CommandRecord) → done < length commands → command ≡ get_or commands done command → drop done commands ≡ command ∷ drop (done + 1) commands
 drop_at commands done command lt is = rw (add-one done) (by-place commands done lt is)
@@ -132,10 +133,51 @@ pub done_holds : {A : Type 0} (sizes : List ℕ) (command : ℕ) (made : MovieRe
 done_holds {A} sizes command made old new (Ok done) held does = does.held sizes held
 done_holds {A} sizes command made old new (Err bad) held does = tt
 
--- there is room for the file of a further command
-pub has_room : (commands : List CommandRecord) (done : ℕ) (movie : PlacedMovie) (old now : FolderState) → FoldsTo commands done movie old now → old.opened ≡ [] → done < length commands → length commands < 2 ^ 31
-    → length now.opened < 2 ^ 32 - 1
+-- there is room for the files of a further command
+pub has_room : (commands : List CommandRecord) (done : ℕ) (movie : PlacedMovie) (old now : FolderState) → FoldsTo commands done movie old now → old.opened ≡ [] → done < length commands → length commands < 2 ^ 30
+    → length now.opened < 2 ^ 32 - 3
 has_room commands done movie old now folds none lt few =
-    let all = folds.all in
+    let all = folds.folder.all in
     let opened : length now.opened ≡ length all.files = ap length (all.opened ∙ ap (λ (o : List OpenedFile). o ++ all.files) none) in
     omega (arith, opened, all.few, lt, few)
+
+-- all files that options read must be there, and so must this one's
+needs : (commands : List CommandRecord) (done : ℕ) (command : CommandRecord) → done < length commands → command ≡ get_or commands done command → NeedAll commands → NeedsAll command.what
+needs commands done command lt is all = subst (λ (c : CommandRecord). NeedsAll c.what) (sym is) (all done command lt)
+
+-- it stops at this command
+pub stops_here : (A B : Type 0) (commands : List CommandRecord) (done : ℕ) (command : CommandRecord) (stop : Stop) (old mid new : FolderState) → done < length commands → command ≡ get_or commands done command
+    → OpensFiles {A = Unit} (Ok tt) (reads (take done commands)) (3 * done) (NeedAll commands) old mid
+    → OpensFiles {A = A} (Err stop) (names_of command.what) 3 (NeedsAll command.what) mid new
+    → OpensFiles {A = B} (Err stop) (reads commands) (3 * length commands) (NeedAll commands) old new
+stops_here A B commands done command stop old mid new lt is before here =
+    stops_as B B stop (λ files. (reads (take done commands) files ++ names_of command.what files) ++ reads (drop (done + 1) commands) files) (reads commands) ((3 * done + 3) + 0) (3 * length commands) (NeedAll commands) (NeedAll commands) old new
+    (λ files. reads-at files commands done command lt is) (omega (arith, lt)) (λ n. n)
+    (stops_first B B stop (λ files. reads (take done commands) files ++ names_of command.what files) (reads (drop (done + 1) commands)) (3 * done + 3) 0 (NeedAll commands) old new
+    (stops_on Unit A B tt stop (reads (take done commands)) (names_of command.what) (3 * done) 3 (NeedAll commands) old mid new before
+    (stops_as A A stop (names_of command.what) (names_of command.what) 3 3 (NeedsAll command.what) (NeedAll commands) mid new (λ files. refl) (omega arith) (needs commands done command lt is) here)))
+
+-- it goes on behind it
+pub goes_on_here : (A : Type 0) (x : A) (commands : List CommandRecord) (done : ℕ) (command : CommandRecord) (old mid new : FolderState) → done < length commands → command ≡ get_or commands done command
+    → OpensFiles {A = Unit} (Ok tt) (reads (take done commands)) (3 * done) (NeedAll commands) old mid
+    → OpensFiles {A = A} (Ok x) (names_of command.what) 3 (NeedsAll command.what) mid new
+    → OpensFiles {A = Unit} (Ok tt) (reads (take (done + 1) commands)) (3 * (done + 1)) (NeedAll commands) old new
+goes_on_here A x commands done command old mid new lt is before here =
+    opens_as Unit Unit tt tt (λ files. reads (take done commands) files ++ names_of command.what files) (reads (take (done + 1) commands)) (3 * done + 3) (3 * (done + 1)) (NeedAll commands) (NeedAll commands) old new
+    (λ files. reads-next files commands done command lt is) (omega arith) (λ n. n)
+    (opens_on Unit A Unit tt x tt (reads (take done commands)) (names_of command.what) (3 * done) 3 (NeedAll commands) old mid new before
+    (opens_as A A x x (names_of command.what) (names_of command.what) 3 3 (NeedsAll command.what) (NeedAll commands) mid new (λ files. refl) (omega arith) (needs commands done command lt is) here))
+
+-- all commands are done
+pub all_done : (A : Type 0) (x : A) (commands : List CommandRecord) (done : ℕ) (old now : FolderState) → length commands ≤ done → done ≤ length commands
+    → OpensFiles {A = Unit} (Ok tt) (reads (take done commands)) (3 * done) (NeedAll commands) old now
+    → OpensFiles {A = A} (Ok x) (reads commands) (3 * length commands) (NeedAll commands) old now
+all_done A x commands done old now le most h =
+    opens_as Unit A tt x (reads (take done commands)) (reads commands) (3 * done) (3 * length commands) (NeedAll commands) (NeedAll commands) old now
+    (λ files. ap (λ (l : List CommandRecord). reads l files) (take_all_commands commands done le)) (omega (arith, most)) (λ n. n) h
+
+-- a command that opens no file leaves the folder as it is
+pub opens_no_file : {A : Type 0} (what : Asked) (needed : Type 0) (command : ℕ) (done : Result A Refused) (s : FolderState) → ((files : List HeldFile) → names_of what files ≡ [])
+    → OpensFiles {A = A} (of_done command done) (names_of what) 3 needed s s
+opens_no_file {A} what needed command (Ok value) s none = opens_nothing A value (names_of what) 3 needed s none
+opens_no_file {A} what needed command (Err bad) s none = then_fails Unit A tt command (Fail.Bad bad) (names_of what) 3 needed s s (opens_nothing Unit tt (names_of what) 3 needed s none)

@@ -1,9 +1,9 @@
 -- What is read of an option's file is what its input comes to, where the folder tells.
-use Rattle.std.proofs.Common.{◌≡◌, ◌+◌, ◌<◌, ◌≤◌, ℕ, List, [], ◌∷◌, ◌++◌, Option, Some, None, Result, Ok, Err, length, map, take, is_some, refl, sym, subst, ap, ◌∙◌, arith, option_and_then, IfSome, IfOk, IsSome, IsSomeAnd, if◌then◌else◌}
+use Rattle.std.proofs.Common.{◌≡◌, ◌+◌, ◌<◌, ◌≤◌, ℕ, List, [], ◌∷◌, ◌++◌, Option, Some, None, Result, Ok, Err, length, map, take, is_some, refl, sym, subst, ap, ◌∙◌, arith, option_and_then, get_or, IfSome, IfOk, IsSome, IsSomeAnd, if◌then◌else◌}
 use Rattle.std.proofs.lemmas.List.{append-nil}
+use Rattle.mp_ports.specs.declared.fault.Bad.{Bad}
 use Rattle.mp_ports.specs.declared.fault.ReadFail.{ReadFail}
 use Rattle.mp_ports.specs.Folder.{FolderState, HeldFile, OpenedFile, Opens, bytes_under, held_under, opened_at}
-use Rattle.mp_ports.specs.Reading.{OnlyReads}
 use Rattle.mp_pieces.specs.Copied.{sizes_of}
 use Rattle.mp_timeline.specs.Movie.{MovieRecord}
 use Rattle.mp_movie.specs.Placed.{PlacedMovie}
@@ -12,32 +12,60 @@ use Rattle.mp_words.specs.declared.name.FileKind.{FileKind}
 use Rattle.mp_words.specs.Names.{kind_of}
 use Rattle.mp4edit.specs.declared.stop.Stop.{Stop}
 use Rattle.mp4edit.specs.Names.{OpensAll, OpensFront, held_name, names}
-use Rattle.mp4edit.specs.Outcome.{Outcome, input, input_outcome, outcome_of, read_as}
-use Rattle.mp4edit.specs.Reading.{AllTold, Gives, of_read, told_files}
+use Rattle.mp4edit.specs.Outcome.{Absent, Outcome, file_input, input_outcome, outcome_of, read_as}
+use Rattle.mp4edit.specs.Opening.{FindsFor}
+use Rattle.mp4edit.specs.Reading.{AllTold, Gives, GivesNone, of_read, told_files}
 use Rattle.mp4edit.proofs.ToldFiles.{bytes_at, is_open, opened_last}
 
 -- what was read, for the option of that number
-abbrev answer : ℕ → Result PlacedMovie ReadFail → Result PlacedMovie Stop
-answer command (Ok movie) = Ok movie
+abbrev pub answer : {A : Type 0} → ℕ → Result A ReadFail → Result A Stop
+answer command (Ok value) = Ok value
 answer command (Err fail) = Err (of_read command fail)
+
+-- what was read of a file is what its bytes come to, where they are told
+pub answer_gives : (t : FolderState) (file command : ℕ) (bytes : List ℕ) (read : Result PlacedMovie ReadFail) (wanted : Result MovieRecord Bad) → get_or (told_files t) file [] ≡ bytes
+    → Reads file bytes read wanted → Gives {A = PlacedMovie} (λ movie. movie) (answer command read) t (outcome_of command wanted)
+answer_gives t file command bytes (Ok movie) wanted is reads = ap (λ r. outcome_of command r) (reads (told_files t) is)
+answer_gives t file command bytes (Err (ReadFail.Bad bad)) wanted is reads = ap (λ r. outcome_of command r) (reads (told_files t) is)
+answer_gives t file command bytes (Err ReadFail.ReadFault) wanted is reads = tt
+answer_gives t file command bytes (Err ReadFail.NoMemory) wanted is reads = tt
+
+-- a failure gives the same at any state of the folder
+pub fails_give : (t u : FolderState) (held : Option (List HeldFile)) (command : ℕ) (fail : ReadFail) (outcome_by : List HeldFile → Outcome)
+    → IfSome held (λ files. Gives {A = PlacedMovie} (λ movie. movie) (Err (of_read command fail)) t (outcome_by files))
+    → IfSome held (λ files. Gives {A = PlacedMovie} (λ movie. movie) (Err (of_read command fail)) u (outcome_by files))
+fails_give t u held command (ReadFail.Bad bad) outcome_by gives = gives
+fails_give t u held command ReadFail.ReadFault outcome_by gives = gives
+fails_give t u held command ReadFail.NoMemory outcome_by gives = gives
+
+-- the file is missing, and so has no movie; or why it wasn't opened
+pub none_gives : (s t : FolderState) (name : List ℕ) (command : ℕ) (stop : Stop) → FindsFor command (Err stop) s t name → IfSome s.held (λ files. GivesNone stop (file_input files command name))
+none_gives s t name command stop finds = by stop s.held refl finds
+  where
+    absent : (bytes : Option (List ℕ)) (number : ℕ) → number ≡ command → bytes ≡ None → input_outcome (kind_of name) command bytes ≡ Absent number
+    absent bytes number same none = rw (none, same) refl
+
+    each : (held : Option (List HeldFile)) (P : List HeldFile → Type 0) → ((files : List HeldFile) → P files) → IfSome held P
+    each None P all = tt
+    each (Some files) P all = all files
+
+    by : (stop : Stop) (held : Option (List HeldFile)) → s.held ≡ held → FindsFor command (Err stop) s t name → IfSome held (λ files. GivesNone stop (file_input files command name))
+    by (Stop.Bad bad) held is finds = absurd finds
+    by (Stop.Missing number) None is finds = tt
+    by (Stop.Missing number) (Some files) is finds = absent (bytes_under name files) number finds.0 (sym (ap (λ h. option_and_then (bytes_under name) h) is) ∙ finds.1.missing)
+    by Stop.ReadFault held is finds = each held (λ files. Unit) (λ files. tt)
+    by Stop.NoMemory held is finds = each held (λ files. Unit) (λ files. tt)
 
 -- of a held file
 of_bytes : (s t : FolderState) (name bytes : List ℕ) (kind : Option FileKind) (file command : ℕ) (read : Result PlacedMovie ReadFail) (opens : Opens s t name file)
     → IfSome (opened_at t file).bytes (λ bytes. Reads file bytes read (read_as kind bytes)) → held_under name s ≡ Some bytes
     → Gives {A = PlacedMovie} (λ movie. movie) (answer command read) t (outcome_of command (read_as kind bytes))
-of_bytes s t name bytes kind file command read opens reads held = by read of_told
+of_bytes s t name bytes kind file command read opens reads held =
+    answer_gives t file command bytes read (read_as kind bytes) (bytes_at t file bytes (is_open s t name file opens) told)
+    (subst (λ (b : Option (List ℕ)). IfSome b (λ bytes. Reads file bytes read (read_as kind bytes))) told reads)
   where
     told : (opened_at t file).bytes ≡ Some bytes
     told = ap (λ (f : OpenedFile). f.bytes) (opened_last s t name file opens) ∙ held
-
-    of_told : Reads file bytes read (read_as kind bytes)
-    of_told = subst (λ (b : Option (List ℕ)). IfSome b (λ bytes. Reads file bytes read (read_as kind bytes))) told reads
-
-    by : (read : Result PlacedMovie ReadFail) → Reads file bytes read (read_as kind bytes) → Gives {A = PlacedMovie} (λ movie. movie) (answer command read) t (outcome_of command (read_as kind bytes))
-    by (Ok movie) reads = ap (λ r. outcome_of command r) (reads (told_files t) (bytes_at t file bytes (is_open s t name file opens) told))
-    by (Err (ReadFail.Bad bad)) reads = ap (λ r. outcome_of command r) (reads (told_files t) (bytes_at t file bytes (is_open s t name file opens) told))
-    by (Err ReadFail.ReadFault) reads = tt
-    by (Err ReadFail.NoMemory) reads = tt
 
 of_found : (s t : FolderState) (name : List ℕ) (kind : Option FileKind) (file command : ℕ) (read : Result PlacedMovie ReadFail) (found : Option (List ℕ)) → Opens s t name file
     → IfSome (opened_at t file).bytes (λ bytes. Reads file bytes read (read_as kind bytes)) → held_under name s ≡ found → IsSome found
@@ -48,10 +76,10 @@ of_found s t name kind file command read (Some bytes) opens reads held some = of
 -- of a folder that tells
 read_gives : (s t : FolderState) (name : List ℕ) (file command : ℕ) (read : Result PlacedMovie ReadFail) → Opens s t name file
     → IfSome (opened_at t file).bytes (λ bytes. Reads file bytes read (read_as (kind_of name) bytes))
-    → IfSome s.held (λ files. Gives {A = PlacedMovie} (λ movie. movie) (answer command read) t (input files command name))
+    → IfSome s.held (λ files. Gives {A = PlacedMovie} (λ movie. movie) (answer command read) t (file_input files command name))
 read_gives s t name file command read opens reads = of_held s.held refl
   where
-    of_held : (held : Option (List HeldFile)) → s.held ≡ held → IfSome held (λ files. Gives {A = PlacedMovie} (λ movie. movie) (answer command read) t (input files command name))
+    of_held : (held : Option (List HeldFile)) → s.held ≡ held → IfSome held (λ files. Gives {A = PlacedMovie} (λ movie. movie) (answer command read) t (file_input files command name))
     of_held None e = tt
     of_held (Some files) e =
         of_found s t name (kind_of name) file command read (bytes_under name files) opens reads
@@ -60,23 +88,18 @@ read_gives s t name file command read opens reads = of_held s.held refl
 -- the movie that was read
 pub movie_gives : (s t u : FolderState) (name : List ℕ) (file command : ℕ) (movie : PlacedMovie) → Opens s t name file → u ≡ t
     → IfSome (opened_at t file).bytes (λ bytes. Reads file bytes (Ok movie) (read_as (kind_of name) bytes))
-    → IfSome s.held (λ files. Gives {A = PlacedMovie} (λ movie. movie) (Ok movie) u (input files command name))
+    → IfSome s.held (λ files. Gives {A = PlacedMovie} (λ movie. movie) (Ok movie) u (file_input files command name))
 movie_gives s t u name file command movie opens same reads =
-    subst (λ (x : FolderState). IfSome s.held (λ files. Gives {A = PlacedMovie} (λ movie. movie) (Ok movie) x (input files command name))) (sym same)
+    subst (λ (x : FolderState). IfSome s.held (λ files. Gives {A = PlacedMovie} (λ movie. movie) (Ok movie) x (file_input files command name))) (sym same)
     (read_gives s t name file command (Ok movie) opens reads)
 
 -- or why there is none: what a refusal gives speaks of no folder
 pub fail_gives : (s t u : FolderState) (name : List ℕ) (kind : Option FileKind) (file command : ℕ) (fail : ReadFail) → Opens s t name file → kind ≡ kind_of name
     → IfSome (opened_at t file).bytes (λ bytes. Reads file bytes (Err fail) (read_as kind bytes))
-    → IfSome s.held (λ files. Gives {A = PlacedMovie} (λ movie. movie) (Err (of_read command fail)) u (input files command name))
+    → IfSome s.held (λ files. Gives {A = PlacedMovie} (λ movie. movie) (Err (of_read command fail)) u (file_input files command name))
 fail_gives s t u name kind file command fail opens is reads =
-    by fail (read_gives s t name file command (Err fail) opens (subst (λ k. IfSome (opened_at t file).bytes (λ bytes. Reads file bytes (Err fail) (read_as k bytes))) is reads))
-  where
-    by : (fail : ReadFail) → IfSome s.held (λ files. Gives {A = PlacedMovie} (λ movie. movie) (Err (of_read command fail)) t (input files command name))
-        → IfSome s.held (λ files. Gives {A = PlacedMovie} (λ movie. movie) (Err (of_read command fail)) u (input files command name))
-    by (ReadFail.Bad bad) gives = gives
-    by ReadFail.ReadFault gives = gives
-    by ReadFail.NoMemory gives = gives
+    fails_give t u s.held command fail (λ files. file_input files command name)
+    (read_gives s t name file command (Err fail) opens (subst (λ k. IfSome (opened_at t file).bytes (λ bytes. Reads file bytes (Err fail) (read_as k bytes))) is reads))
 
 -- the name of the file that was opened is the wanted one
 pub opens_all : (s t u : FolderState) (name : List ℕ) (file : ℕ) → Opens s t name file → u.opened ≡ t.opened → OpensAll (held_name name) 1 s u
@@ -107,10 +130,3 @@ opens_none wanted most s u same = record {
     of_held : (held : Option (List HeldFile)) → IfSome held (λ held. (part : ℕ) × (part ≤ length (wanted held)) × (names [] ≡ take part (wanted held)))
     of_held None = tt
     of_held (Some files) = (0, omega arith, refl)
-
--- reading opens no further file
-pub reads_same : {A : Type 0} (read : Result A ReadFail) (t u : FolderState) → OnlyReads read t u → u.opened ≡ t.opened
-reads_same (Ok value) t u is = ap (λ (x : FolderState). x.opened) is
-reads_same (Err (ReadFail.Bad bad)) t u is = ap (λ (x : FolderState). x.opened) is
-reads_same (Err ReadFail.ReadFault) t u is = ap (λ (x : FolderState). x.opened) is
-reads_same (Err ReadFail.NoMemory) t u is = ap (λ (x : FolderState). x.opened) is

@@ -1,5 +1,5 @@
 -- What a run says of the job that its words name.
-use Rattle.std.proofs.Common.{◌≡◌, ℕ, List, Option, Some, None, Result, Ok, Err, IfSome, refl, ap, arith}
+use Rattle.std.proofs.Common.{◌≡◌, ℕ, List, Option, Some, None, Result, Ok, Err, IfSome, refl, sym, subst, ap, arith}
 use Rattle.mp_ports.specs.Folder.{FolderState, HeldFile}
 use Rattle.mp_ports.specs.Report.{ReportState}
 use Rattle.mp_words.specs.declared.job.DumpKind.{DumpKind}
@@ -7,9 +7,9 @@ use Rattle.mp_words.specs.Jobs.{EditRecord, JobRecord, Edits, Dumps, Generates}
 use Rattle.mp_words.specs.Line.{WordFault}
 use Rattle.mp4edit.specs.declared.ending.Ending.{Ending}
 use Rattle.mp4edit.specs.Line.{text_of}
-use Rattle.mp4edit.specs.Names.{held_name}
+use Rattle.mp4edit.specs.Names.{NeedAll, held_name}
 use Rattle.mp4edit.specs.Outcome.{dump_outcome}
-use Rattle.mp4edit.specs.Run.{Completes, EndsDump, EndsEdit, SaysText, TellsFault}
+use Rattle.mp4edit.specs.Run.{Completes, EndsDump, EndsEdit, NeedsAllFiles, RaisesMisses, SaysText, TellsFault}
 use Rattle.mp4edit.specs.Status.{status}
 use Rattle.mp4edit.specs.Words.{IfDumps, IfEdits}
 use Rattle.mp4edit.proofs.Endings.{no_memory_ends}
@@ -19,6 +19,10 @@ use Rattle.mp4edit.proofs.Inputs.{opens_none}
 pub edit_ends : (wanted : Result JobRecord WordFault) (edit : EditRecord) (ending : Ending) (old new : FolderState) (before after : ReportState)
     → wanted ≡ Ok (Edits edit) → EndsEdit ending edit old new before after → IfEdits wanted (λ edit. EndsEdit ending edit old new before after)
 edit_ends wanted edit ending old new before after is ends = rw is ends
+
+pub edit_misses : (wanted : Result JobRecord WordFault) (edit : EditRecord) (ending : Ending) (old new : FolderState)
+    → wanted ≡ Ok (Edits edit) → RaisesMisses (NeedAll edit.commands) ending old new → RaisesMisses (NeedsAllFiles wanted) ending old new
+edit_misses wanted edit ending old new is misses = subst (λ (w : Result JobRecord WordFault). RaisesMisses (NeedsAllFiles w) ending old new) (sym is) misses
 
 -- of a dump
 pub dump_ends : (wanted : Result JobRecord WordFault) (kind : DumpKind) (name : List ℕ) (ending : Ending) (old new : FolderState) (before after : ReportState)

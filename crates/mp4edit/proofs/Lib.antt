@@ -1,7 +1,10 @@
 pub mod ToldFiles
 pub mod Sounds
+pub mod Suffixes
 pub mod Inputs
 pub mod NamesInTurn
+pub mod FilesInTurn
+pub mod Pairs
 pub mod Folds
 pub mod Writes
 pub mod Outcomes

@@ -100,13 +100,13 @@ reads-append : (files : List HeldFile) (commands others : List CommandRecord) �
 reads-append files commands others = flat_map-append (λ (command : CommandRecord). names_of command.what files) commands others
 
 -- so far, this command, and the rest
-reads-at : (files : List HeldFile) (commands : List CommandRecord) (done : ℕ) (command : CommandRecord) → done < length commands → command ≡ get_or commands done command
+pub reads-at : (files : List HeldFile) (commands : List CommandRecord) (done : ℕ) (command : CommandRecord) → done < length commands → command ≡ get_or commands done command
     → (reads (take done commands) files ++ names_of command.what files) ++ reads (drop (done + 1) commands) files ≡ reads commands files
 reads-at files commands done command lt is =
     append_assoc (reads (take done commands) files) (names_of command.what files) (reads (drop (done + 1) commands) files)
     ∙ sym (ap (λ (l : List CommandRecord). reads l files) (command_at commands done command lt is) ∙ reads-append files (take done commands) (command ∷ drop (done + 1) commands))
 
-reads-next : (files : List HeldFile) (commands : List CommandRecord) (done : ℕ) (command : CommandRecord) → done < length commands → command ≡ get_or commands done command
+pub reads-next : (files : List HeldFile) (commands : List CommandRecord) (done : ℕ) (command : CommandRecord) → done < length commands → command ≡ get_or commands done command
     → reads (take done commands) files ++ names_of command.what files ≡ reads (take (done + 1) commands) files
 reads-next files commands done command lt is = sym (ap (λ (l : List CommandRecord). reads l files) (taken commands done lt is) ∙ (reads-append files (take done commands) (command ∷ []) ∙ ap (λ (l : List (List ℕ)). reads (take done commands) files ++ l) (append-nil (names_of command.what files))))
   where
@@ -117,23 +117,6 @@ reads-next files commands done command lt is = sym (ap (λ (l : List CommandReco
         by-place [] done lt is = absurd (omega arith)
         by-place (first ∷ commands) zero lt is = rw is refl
         by-place (first ∷ commands) (suc done) lt is = ap (λ (l : List CommandRecord). first ∷ l) (by-place commands done (omega arith) is)
-
--- it ends at this command
-pub front_here : (commands : List CommandRecord) (done : ℕ) (command : CommandRecord) (old mid new : FolderState) → done < length commands → command ≡ get_or commands done command → mid.held ≡ old.held
-    → OpensAll (λ files. reads (take done commands) files) done old mid → OpensFront (λ files. names_of command.what files) 1 mid new → OpensFront (λ files. reads commands files) (length commands) old new
-front_here commands done command old mid new lt is same a f =
-    front_as (λ files. (reads (take done commands) files ++ names_of command.what files) ++ reads (drop (done + 1) commands) files) (λ files. reads commands files) old new ((done + 1) + 0) (length commands)
-    (λ files. reads-at files commands done command lt is) (omega (arith, lt))
-    (front_more (λ files. reads (take done commands) files ++ names_of command.what files) (λ files. reads (drop (done + 1) commands) files) old new (done + 1) 0
-    (all_then_front (λ files. reads (take done commands) files) (λ files. names_of command.what files) old mid new done 1 same a f))
-
--- it goes on
-pub all_here : (commands : List CommandRecord) (done : ℕ) (command : CommandRecord) (old mid new : FolderState) → done < length commands → command ≡ get_or commands done command → mid.held ≡ old.held
-    → OpensAll (λ files. reads (take done commands) files) done old mid → OpensAll (λ files. names_of command.what files) 1 mid new → OpensAll (λ files. reads (take (done + 1) commands) files) (done + 1) old new
-all_here commands done command old mid new lt is same a f =
-    all_as (λ files. reads (take done commands) files ++ names_of command.what files) (λ files. reads (take (done + 1) commands) files) old new (done + 1) (done + 1)
-    (λ files. reads-next files commands done command lt is) (omega arith)
-    (all_then_all (λ files. reads (take done commands) files) (λ files. names_of command.what files) old mid new done 1 same a f)
 
 pub take_all_commands : (commands : List CommandRecord) (n : ℕ) → length commands ≤ n → take n commands ≡ commands
 take_all_commands [] zero le = refl

@@ -15,7 +15,7 @@ use Rattle.mp_read.specs.Read.{LiesIn, StretchesAreHeld}
 use Rattle.mp4edit.specs.Reading.{AllTold, told_files}
 
 -- what stands at a number at which no file is opened
-abbrev no_file : OpenedFile
+abbrev pub no_file : OpenedFile
 no_file = record { name = []; size = 0; bytes = None }
 
 abbrev IsToldFile : OpenedFile → Type 0

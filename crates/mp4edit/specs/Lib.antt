@@ -5,4 +5,6 @@ pub mod Line
 pub mod Written
 pub mod Run
 pub mod Reading
+pub mod Opening
+pub mod Pair
 pub mod Status

@@ -1,5 +1,5 @@
 -- What a job comes to, given the files that are held: its options, applied in their order.
-use Rattle.std.specs.Prelude.{ℕ, List, [], ◌∷◌, ◌==◌, length, Option, Some, None, Result, Ok, Err}
+use Rattle.std.specs.Prelude.{ℕ, List, [], ◌∷◌, ◌==◌, codes, length, unwrap_or, Option, Some, None, Result, Ok, Err}
 use Rattle.mp_ports.specs.declared.code.Code.{Code}
 use Rattle.mp_ports.specs.declared.code.Code.TheVariants.{EmptyMovie}
 use Rattle.mp_ports.specs.declared.fault.Bad.{Bad}
@@ -10,14 +10,15 @@ use Rattle.mp_timeline.specs.Plain.{plain_movie_head}
 use Rattle.mp_movie.specs.Placed.{plain_scale}
 use Rattle.mp_movie.specs.Present.{reading}
 use Rattle.adts_import.specs.Stream.{stream_movie}
+use Rattle.nhnt_import.specs.Pair.{pair_movie}
 use Rattle.track_ops.specs.declared.chosen.Choice.{Choice}
 use Rattle.track_ops.specs.Adding.{add}
 use Rattle.track_ops.specs.Tracks.{remove, set_enabled, set_language}
 use Rattle.mp_layout.specs.File.{moov_fault}
 use Rattle.mp_words.specs.declared.name.FileKind.{FileKind}
-use Rattle.mp_words.specs.declared.name.FileKind.TheVariants.{Adts}
+use Rattle.mp_words.specs.declared.name.FileKind.TheVariants.{Adts, Nhnt}
 use Rattle.mp_words.specs.Jobs.{Asked, Adds, Removes, SetsLanguage, Enables, CommandRecord, EditRecord}
-use Rattle.mp_words.specs.Names.{kind_of}
+use Rattle.mp_words.specs.Names.{beside, kind_of}
 
 -- a movie to be written, a refusal, or an option whose file is missing
 pub data Outcome : Type 0 where
@@ -46,19 +47,39 @@ abbrev pub input_outcome : Option FileKind → ℕ → Option (List ℕ) → Out
 input_outcome kind command None = Absent command
 input_outcome kind command (Some bytes) = outcome_of command (read_as kind bytes)
 
--- the file of that name
+-- the one file of that name, which is no NHNT table
+abbrev pub file_input : List HeldFile → ℕ → List ℕ → Outcome
+file_input files command name = input_outcome (kind_of name) command (bytes_under name files)
+
+-- what an NHNT pair comes to, where its table and its `.media` file are held; without an `.info` file, `info` has no bytes
+abbrev pub pair_outcome : ℕ → Option (List ℕ) → Option (List ℕ) → List ℕ → Outcome
+pair_outcome command (Some table) (Some media) info = outcome_of command (pair_movie table media info)
+pair_outcome command table media info = Absent command
+
+-- the pair whose table has that name
+abbrev pub pair_input : List HeldFile → ℕ → List ℕ → Outcome
+pair_input files command name =
+    pair_outcome command (bytes_under name files) (bytes_under (beside name (codes ".media")) files)
+    (unwrap_or (bytes_under (beside name (codes ".info")) files) [])
+
+-- the pair, or the one file
+abbrev pub input_as : Option FileKind → List HeldFile → ℕ → List ℕ → Outcome
+input_as (Some Nhnt) files command name = pair_input files command name
+input_as kind files command name = file_input files command name
+
+-- the input of that name
 abbrev pub input : List HeldFile → ℕ → List ℕ → Outcome
-input files command name = input_outcome (kind_of name) command (bytes_under name files)
+input files command name = input_as (kind_of name) files command name
 
 -- what the option's command makes of the movie
 abbrev pub applied : ℕ → Result MovieRecord Code → Outcome
 applied command made = outcome_of command (placed 0 made)
 
--- the chosen tracks of the file of that name are added
+-- the chosen tracks of the input of that name are added
 abbrev pub add_outcome : List HeldFile → ℕ → List ℕ → Choice → MovieRecord → Outcome
 add_outcome files command name choice movie = and_then (input files command name) (λ other. applied command (add choice other movie))
 
--- an option: its file is read, and then its command is applied. No job that is built has another one than these
+-- an option: its input is read, and then its command is applied. No job that is built has another one than these
 abbrev pub step : List HeldFile → ℕ → Asked → MovieRecord → Outcome
 step files command (Adds name choice rate) movie = add_outcome files command name choice movie
 step files command (Removes number) movie = applied command (remove number movie)
@@ -89,7 +110,7 @@ outcome edit files = and_then (folded files edit.commands no_movie) (written edi
 
 -- what a dump comes to: what its file presents, as the input of the line's one option
 abbrev pub dump_outcome : List ℕ → List HeldFile → Outcome
-dump_outcome name files = input files 1 name
+dump_outcome name files = file_input files 1 name
 
 -- it is a movie, of which this holds
 abbrev pub IsMovieAnd : Outcome → (MovieRecord → Type 0) → Type 0

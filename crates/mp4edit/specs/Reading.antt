@@ -1,16 +1,17 @@
 -- What the calls of a run answer, step by step.
-use Rattle.std.specs.Prelude.{◌≡◌, ℕ, List, [], All, length, map, unwrap_or, IsSomeAnd, Result, Ok, Err}
+use Rattle.std.specs.Prelude.{◌≡◌, ◌⊎◌, ℕ, List, [], All, length, map, unwrap_or, IfSome, IsSomeAnd, OnOk, Result, Ok, Err}
 use Rattle.mp_ports.specs.declared.fault.Bad.{Bad as Refused}
 use Rattle.mp_ports.specs.declared.fault.Fail.{Fail}
 use Rattle.mp_ports.specs.declared.fault.Fail.TheVariants.{Bad as FailBad, NoMemory as FailNoMemory}
 use Rattle.mp_ports.specs.declared.fault.ReadFail.{ReadFail}
 use Rattle.mp_ports.specs.declared.fault.ReadFail.TheVariants.{Bad as ReadBad, ReadFault as ReadFails, NoMemory as ReadNoMemory}
-use Rattle.mp_ports.specs.Count.{after_fault}
+use Rattle.mp_ports.specs.Count.{Rose, after_fault}
 use Rattle.mp_ports.specs.Folder.{FolderState, OpenedFile}
 use Rattle.mp_movie.specs.Placed.{PlacedMovie}
 use Rattle.mp_movie.specs.StandsFor.{stands_for}
 use Rattle.mp4edit.specs.declared.stop.Stop.{Stop}
 use Rattle.mp4edit.specs.declared.stop.Stop.TheVariants.{Missing, Bad, ReadFault, NoMemory}
+use Rattle.mp4edit.specs.Names.{OpensAll, OpensFront, Wanted}
 use Rattle.mp4edit.specs.Outcome.{Outcome, Movie, Refusal, Absent}
 
 -- the bytes of the opened files, each at its number; none of a file that isn't told
@@ -21,19 +22,39 @@ told_files s = map (λ (file : OpenedFile). unwrap_or file.bytes []) s.opened
 abbrev pub AllTold : FolderState → Type 0
 AllTold s = All (λ (file : OpenedFile). IsSomeAnd file.bytes (λ bytes. file.size ≡ length bytes)) s.opened
 
--- the movie, as the opened files tell it, or what the options come to instead, or a failed read, or want of memory
+-- what the options come to where there is no movie, or a failed read, or want of memory
+abbrev pub GivesNone : Stop → Outcome → Type 0
+GivesNone (Bad bad) outcome = outcome ≡ Refusal bad
+GivesNone (Missing command) outcome = outcome ≡ Absent command
+GivesNone ReadFault outcome = Unit
+GivesNone NoMemory outcome = Unit
+
+-- the movie, as the opened files tell it, or why there is none
 abbrev pub Gives : {A : Type 0} → (A → PlacedMovie) → Result A Stop → FolderState → Outcome → Type 0
 Gives movie_in (Ok value) s outcome = outcome ≡ Movie (stands_for (told_files s) (movie_in value))
-Gives movie_in (Err (Bad bad)) s outcome = outcome ≡ Refusal bad
-Gives movie_in (Err (Missing command)) s outcome = outcome ≡ Absent command
-Gives movie_in (Err ReadFault) s outcome = Unit
-Gives movie_in (Err NoMemory) s outcome = Unit
+Gives movie_in (Err stop) s outcome = GivesNone stop outcome
 
--- files may have been opened, and of the counts only that of the cause rose
+-- files may have been opened or missed, and of the other counts only that of the cause rose
 abbrev pub KeepsRest : {A : Type 0} → Result A Stop → FolderState → FolderState → Type 0
-KeepsRest (Err (Missing command)) old new = new ≡ record old { opened = new.opened; misses = after_fault old.misses }
-KeepsRest (Err ReadFault) old new = new ≡ record old { opened = new.opened; read_faults = after_fault old.read_faults }
-KeepsRest _ old new = new ≡ record old { opened = new.opened }
+KeepsRest (Err ReadFault) old new = new ≡ record old { opened = new.opened; misses = new.misses; read_faults = after_fault old.read_faults }
+KeepsRest _ old new = new ≡ record old { opened = new.opened; misses = new.misses }
+
+-- the misses are the same, or rose; where all files must be there (`needed`), they are the same
+abbrev pub KeepsMisses : Type 0 → FolderState → FolderState → Type 0
+KeepsMisses needed old new = ((new.misses ≡ old.misses) ⊎ Rose old.misses new.misses) × (needed → new.misses ≡ old.misses)
+
+-- where a file is missing that must be there, they rose
+abbrev pub CountsMisses : {A : Type 0} → Type 0 → Result A Stop → FolderState → FolderState → Type 0
+CountsMisses needed (Err (Missing command)) old new = Rose old.misses new.misses
+CountsMisses needed _ old new = KeepsMisses needed old new
+
+-- what reading files of the wanted names does to a folder: it opens a front of those that are held, and all where it goes on
+pub record OpensFiles {A : Type 0} (result : Result A Stop) (wanted : Wanted) (most : ℕ) (needed : Type 0) (old new : FolderState) : Type 0 where
+  pub names : OpensFront wanted most old new
+  pub all : OnOk result (OpensAll wanted most old new)
+  pub rest : KeepsRest result old new
+  pub misses : CountsMisses needed result old new
+  pub told : IfSome old.held (λ _. AllTold old → AllTold new)
 
 -- a refusal under the number of the option
 abbrev pub named : ℕ → Refused → Refused

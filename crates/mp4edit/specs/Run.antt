@@ -1,5 +1,5 @@
 -- What a run may have left behind, at each of its endings.
-use Rattle.std.specs.Prelude.{◌≡◌, ◌≢◌, ◌⊎◌, ℕ, true, false, List, length, Some, None, IfSome, IfNone, IsSomeAnd, Result, Err, IsOk}
+use Rattle.std.specs.Prelude.{◌≡◌, ◌≢◌, ◌⊎◌, ◌*◌, ℕ, true, false, List, length, Some, None, IfSome, IfNone, IsSomeAnd, Result, Ok, Err, IsOk}
 use Rattle.mp_ports.specs.Count.{Rose}
 use Rattle.mp_ports.specs.Folder.{FolderState}
 use Rattle.mp_ports.specs.Report.{ReportState, Says, FailsToSay}
@@ -10,11 +10,12 @@ use Rattle.mp4edit.specs.declared.ending.Ending.TheVariants.{Done, Words, Refuse
 use Rattle.mp_timeline.specs.Movie.{MovieRecord}
 use Rattle.mp_words.specs.declared.job.DumpKind.{DumpKind}
 use Rattle.mp_words.specs.Line.{WordFault}
-use Rattle.mp_words.specs.Jobs.{CommandRecord, EditRecord, JobRecord}
+use Rattle.mp_words.specs.Jobs.{CommandRecord, EditRecord, JobRecord, Edits}
 use Rattle.mp4edit.specs.Outcome.{Outcome, Movie, Refusal, Absent, IsMovieAnd, dump_outcome, outcome}
 use Rattle.mp4edit.specs.Line.{line, text_of}
 use Rattle.mp4edit.specs.Written.{IsToldFront, OutputRecord}
-use Rattle.mp4edit.specs.Names.{OpensAll, OpensFront, Wanted, held_name, reads}
+use Rattle.mp4edit.specs.Names.{NeedAll, OpensAll, OpensFront, Wanted, held_name, reads}
+use Rattle.mp4edit.specs.Reading.{KeepsMisses}
 
 -- each fault has its cause: of the counts only the one of that kind rose, and the files held are the same
 pub record HasCauses (ending : Ending) (old new : FolderState) (before after : ReportState) : Type 0 where
@@ -26,10 +27,15 @@ pub record HasCauses (ending : Ending) (old new : FolderState) (before after : R
   pub report_same : ending ≢ ReportFault → after.faults ≡ before.faults
   pub held_same : new.held ≡ old.held
 
--- only a missing file raises the misses
-abbrev pub RaisesMisses : Ending → FolderState → FolderState → Type 0
-RaisesMisses (NoFile command) old new = Rose old.misses new.misses
-RaisesMisses _ old new = new.misses ≡ old.misses
+-- a file that is missing and must be there raises the misses; without one they are the same where all must be (`needed`)
+abbrev pub RaisesMisses : Type 0 → Ending → FolderState → FolderState → Type 0
+RaisesMisses needed (NoFile command) old new = Rose old.misses new.misses
+RaisesMisses needed _ old new = KeepsMisses needed old new
+
+-- no option of the job may lack a file
+abbrev pub NeedsAllFiles : Result JobRecord WordFault → Type 0
+NeedsAllFiles (Ok (Edits edit)) = NeedAll edit.commands
+NeedsAllFiles _ = Unit
 
 -- a line that is no job is answered by its first fault, or there is no memory; any other ending is that of a job
 abbrev pub AnswersWords : Ending → Result JobRecord WordFault → Type 0
@@ -117,7 +123,7 @@ edit_of commands output = record { commands = commands; out = output.name; out_c
 
 -- what a job that writes a file opens, creates and says, by its outcome where the folder tells
 pub record EndsEdit (ending : Ending) (edit : EditRecord) (old new : FolderState) (before after : ReportState) : Type 0 where
-  pub inputs : OpensInputs ending (reads edit.commands) (length edit.commands) old new
+  pub inputs : OpensInputs ending (reads edit.commands) (3 * length edit.commands) old new
   pub left : Leaves ending edit.out old new
   pub told : IfSome old.held (λ files. Tells ending (outcome edit files) edit.window old new)
   pub said : IfSome old.held (λ files. SaysText ending (outcome edit files) (λ movie. line edit.out movie edit.window) before after)

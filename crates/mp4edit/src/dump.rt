@@ -1,5 +1,5 @@
 // A job that tells of a file.
-ghost use Rattle.std.specs.Prelude.{◌≡◌, [], None, ℕ, List, length, map, string_bytes, IfSome, IfOk};
+ghost use Rattle.std.specs.Prelude.{◌≡◌, ⊤, [], None, ℕ, List, length, map, string_bytes, IfSome, IfOk};
 ghost use Rattle.mp_movie.specs.StandsFor.{Hold, stands_for};
 ghost use Rattle.mp4edit.specs.Outcome.{dump_outcome};
 ghost use Rattle.mp4edit.specs.Line.{text_of};
@@ -7,7 +7,7 @@ ghost use Rattle.mp4edit.specs.Names.{held_name};
 ghost use Rattle.mp4edit.specs.Run.{HasCauses, RaisesMisses, IsOfJob, OpensInputs, IsNoWriteFault, CreatesNothing, SaysNothing, TellsFault, SaysText, Completes};
 
 use crate::ending::Ending;
-use crate::input::read_input;
+use crate::input::read_file;
 use mp_dump::{info_text, timeline_json, timeline_text};
 use mp_movie::Movie;
 use mp_ports::{Folder, NoMemory, Report};
@@ -26,7 +26,7 @@ pub fn tell_file<F: Folder, R: Report>(
     requires output { (F.state folder.old).output ≡ None }
     ensures causes { HasCauses result (F.state folder.old) (F.state folder.new)
         (R.state report.old) (R.state report.new) }
-    ensures misses { RaisesMisses result (F.state folder.old) (F.state folder.new) }
+    ensures misses { RaisesMisses ⊤ result (F.state folder.old) (F.state folder.new) }
     ensures job { IsOfJob result }
     ensures inputs { OpensInputs result (held_name name.now) 1 (F.state folder.old) (F.state folder.new) }
     ensures unwritten { IsNoWriteFault result }
@@ -39,7 +39,7 @@ pub fn tell_file<F: Folder, R: Report>(
         Completes result (dump_outcome name.now files) (F.state folder.old) (F.state folder.new)
         (R.state report.old) (R.state report.new)) }
 {
-    let movie = match read_input(alloc, folder, name, 1) {
+    let movie = match read_file(alloc, folder, name, 1) {
         Ok(movie) => movie,
         Err(stop) => return stop.ending(),
     };

@@ -1,13 +1,13 @@
 // A job that makes a movie of its options, and writes it.
-ghost use Rattle.std.specs.Prelude.{◌≡◌, ◌<◌, ◌^◌, [], None, All, length, IfSome, IfOk};
+ghost use Rattle.std.specs.Prelude.{◌≡◌, ◌*◌, ◌<◌, ◌^◌, [], None, All, length, IfSome, IfOk};
 ghost use Rattle.mp_pieces.specs.Copied.{sizes_of};
 ghost use Rattle.mp_movie.specs.StandsFor.{Hold};
 ghost use Rattle.mp_layout.specs.Plan.{IsPlanOf};
 ghost use Rattle.mp_words.specs.Jobs.{IsAsked};
 ghost use Rattle.mp4edit.specs.Outcome.{outcome};
 ghost use Rattle.mp4edit.specs.Line.{line};
-ghost use Rattle.mp4edit.specs.Names.{OpensAll, OpensFront, reads};
-ghost use Rattle.mp4edit.specs.Reading.{AllTold, Gives, KeepsRest};
+ghost use Rattle.mp4edit.specs.Names.{NeedAll, reads};
+ghost use Rattle.mp4edit.specs.Reading.{AllTold, Gives, OpensFiles};
 ghost use Rattle.mp4edit.specs.Written.{PlansOutput};
 ghost use Rattle.mp4edit.specs.Run.{HasCauses, RaisesMisses, IsOfJob, OpensInputs, Leaves, SaysNothing, Tells, SaysText, Completes, edit_of};
 
@@ -55,13 +55,13 @@ pub fn write_movie<F: Folder, R: Report>(
 ) -> Ending
     requires opened { (F.state folder.old).opened ≡ [] }
     requires output { (F.state folder.old).output ≡ None }
-    requires few { length commands.now < 2 ^ 31 }
+    requires few { length commands.now < 2 ^ 30 }
     requires asked { All (λ command. IsAsked command.what) commands.now }
     ensures causes { HasCauses result (F.state folder.old) (F.state folder.new)
         (R.state report.old) (R.state report.new) }
-    ensures misses { RaisesMisses result (F.state folder.old) (F.state folder.new) }
+    ensures misses { RaisesMisses (NeedAll commands.now) result (F.state folder.old) (F.state folder.new) }
     ensures job { IsOfJob result }
-    ensures inputs { OpensInputs result (reads commands.now) (length commands.now)
+    ensures inputs { OpensInputs result (reads commands.now) (3 * length commands.now)
         (F.state folder.old) (F.state folder.new) }
     ensures left { Leaves result output.name (F.state folder.old) (F.state folder.new) }
     ensures quiet { SaysNothing result (R.state report.old) (R.state report.new) }
@@ -110,17 +110,15 @@ fn plan_movie<F: Folder>(
     output: &Output,
 ) -> Result<(Movie, FilePlan), Stop>
     requires opened { (F.state folder.old).opened ≡ [] }
-    requires few { length commands.now < 2 ^ 31 }
+    requires few { length commands.now < 2 ^ 30 }
     requires asked { All (λ command. IsAsked command.what) commands.now }
     ensures movie { IfSome (F.state folder.old).held (λ files.
         Gives (λ planned. planned.0) result (F.state folder.new) (outcome (edit_of commands.now output.now) files)) }
     ensures told { IfSome (F.state folder.old).held (λ _. AllTold (F.state folder.new)) }
     ensures held { IfOk result (λ planned. Hold (sizes_of (F.state folder.new)) planned.0) }
     ensures plan { IfOk result (λ planned. IsPlanOf planned.1 planned.0 output.now.window) }
-    ensures inputs { OpensFront (reads commands.now) (length commands.now) (F.state folder.old) (F.state folder.new) }
-    ensures all { IfOk result (λ _. OpensAll (reads commands.now) (length commands.now)
-        (F.state folder.old) (F.state folder.new)) }
-    ensures rest { KeepsRest result (F.state folder.old) (F.state folder.new) }
+    ensures folder { OpensFiles result (reads commands.now) (3 * length commands.now) (NeedAll commands.now)
+        (F.state folder.old) (F.state folder.new) }
 {
     let movie = match fold(alloc, folder, commands) {
         Ok(movie) => movie,

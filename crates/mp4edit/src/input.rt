@@ -1,25 +1,54 @@
-// The movie of an option's file, opened and read.
-ghost use Rattle.std.specs.Prelude.{◌≡◌, ◌-◌, ◌<◌, ◌^◌, length, IfOk, IfSome, OnOk};
+// The movie of an option's input, opened and read.
+ghost use Rattle.std.specs.Prelude.{◌≡◌, ◌-◌, ◌<◌, ◌^◌, ⊤, false, length, IfOk, IfSome};
 ghost use Rattle.mp_ports.specs.Folder.{opened_at};
 ghost use Rattle.mp_ports.specs.Reading.{OnlyReads};
 ghost use Rattle.mp_movie.specs.StandsFor.{Hold, Reads};
 ghost use Rattle.mp_pieces.specs.Copied.{sizes_of};
 ghost use Rattle.mp_words.specs.Names.{kind_of};
-ghost use Rattle.mp4edit.specs.Names.{OpensAll, OpensFront, held_name};
-ghost use Rattle.mp4edit.specs.Outcome.{input, read_as};
+ghost use Rattle.mp4edit.specs.Names.{held_name, input_names, is_nhnt};
+ghost use Rattle.mp4edit.specs.Outcome.{file_input, input, read_as};
 ghost use Rattle.mp_read.specs.Read.{LiesIn};
-ghost use Rattle.mp4edit.specs.Reading.{AllTold, Gives, KeepsRest};
+ghost use Rattle.mp4edit.specs.Reading.{Gives, OpensFiles};
 
+use crate::opening::find_for;
+use crate::pair::read_pair;
 use crate::stop::{Stop, of_read};
 use adts_import::import_adts;
 use mp_movie::Movie;
-use mp_ports::{Folder, OpenFail, ReadFail};
+use mp_ports::{Folder, ReadFail};
 use mp_read::read_movie;
 use mp_words::{FileKind, kind_of};
 use std::alloc::Global;
 
-/// The movie of the file of that name, for the option of that number.
+/// The movie of the input of that name, for the option of that number.
 pub fn read_input<F: Folder>(
+    alloc: Global,
+    folder: &mut F,
+    name: &str,
+    command: u32,
+) -> Result<Movie, Stop>
+    requires { length (F.state folder.old).opened < 2 ^ 32 - 3 }
+    ensures movie { IfSome (F.state folder.old).held (λ files.
+        Gives (λ movie. movie) result (F.state folder.new) (input files command name.now)) }
+    ensures held { IfOk result (Hold (sizes_of (F.state folder.new))) }
+    ensures folder { OpensFiles result (input_names name.now) 3 (is_nhnt (kind_of name.now) ≡ false)
+        (F.state folder.old) (F.state folder.new) }
+{
+    if is_nhnt(name) {
+        return read_pair(alloc, folder, name, command);
+    }
+    read_file(alloc, folder, name, command)
+}
+
+/// The name is that of an NHNT table.
+fn is_nhnt(name: &str) -> bool
+    ensures { result ≡ is_nhnt (kind_of name.now) }
+{
+    matches!(kind_of(name), Some(FileKind::Nhnt))
+}
+
+/// The movie of the one file of that name.
+pub fn read_file<F: Folder>(
     alloc: Global,
     folder: &mut F,
     name: &str,
@@ -27,18 +56,13 @@ pub fn read_input<F: Folder>(
 ) -> Result<Movie, Stop>
     requires { length (F.state folder.old).opened < 2 ^ 32 - 1 }
     ensures movie { IfSome (F.state folder.old).held (λ files.
-        Gives (λ movie. movie) result (F.state folder.new) (input files command name.now)) }
-    ensures told { IfSome (F.state folder.old).held (λ _. AllTold (F.state folder.old) → AllTold (F.state folder.new)) }
+        Gives (λ movie. movie) result (F.state folder.new) (file_input files command name.now)) }
     ensures held { IfOk result (Hold (sizes_of (F.state folder.new))) }
-    ensures names { OpensFront (held_name name.now) 1 (F.state folder.old) (F.state folder.new) }
-    ensures all { OnOk result (OpensAll (held_name name.now) 1 (F.state folder.old) (F.state folder.new)) }
-    ensures rest { KeepsRest result (F.state folder.old) (F.state folder.new) }
+    ensures folder { OpensFiles result (held_name name.now) 1 ⊤ (F.state folder.old) (F.state folder.new) }
 {
-    let file = match folder.open(name) {
+    let file = match find_for(folder, name, command) {
         Ok(file) => file,
-        Err(OpenFail::Missing) => return Err(Stop::Missing { command }),
-        Err(OpenFail::Failed) => return Err(Stop::ReadFault),
-        Err(OpenFail::NoMemory) => return Err(Stop::NoMemory),
+        Err(stop) => return Err(stop),
     };
     match read_opened(alloc, folder, file, kind_of(name)) {
         Ok(movie) => Ok(movie),

@@ -1,11 +1,12 @@
 // The options of a line, applied in their order.
-ghost use Rattle.std.specs.Prelude.{◌≡◌, ◌-◌, ◌<◌, ◌^◌, [], length, Some, All, IfOk, IfSome, OnOk};
+ghost use Rattle.std.specs.Prelude.{◌≡◌, ◌*◌, ◌-◌, ◌<◌, ◌^◌, [], false, length, Some, All, IfOk, IfSome, OnOk};
 ghost use Rattle.mp_movie.specs.StandsFor.{Hold, stands_for};
 ghost use Rattle.mp_pieces.specs.Copied.{sizes_of};
 ghost use Rattle.mp_words.specs.Jobs.{IsAsked, asked};
-ghost use Rattle.mp4edit.specs.Names.{OpensAll, OpensFront, held_name, names_of, reads};
+ghost use Rattle.mp_words.specs.Names.{kind_of};
+ghost use Rattle.mp4edit.specs.Names.{NeedAll, NeedsAll, input_names, is_nhnt, names_of, reads};
 ghost use Rattle.mp4edit.specs.Outcome.{add_outcome, folded, no_movie, step};
-ghost use Rattle.mp4edit.specs.Reading.{AllTold, Gives, KeepsRest, of_done, told_files};
+ghost use Rattle.mp4edit.specs.Reading.{AllTold, Gives, OpensFiles, of_done, told_files};
 
 use crate::input::read_input;
 use crate::stop::{Stop, of_fail};
@@ -18,16 +19,14 @@ use track_ops::{Choice, add_tracks, remove, set_enabled, set_language};
 /// The movie that the commands make, one after another, of no movie.
 pub fn fold<F: Folder>(alloc: Global, folder: &mut F, commands: &[Command]) -> Result<Movie, Stop>
     requires opened { (F.state folder.old).opened ≡ [] }
-    requires few { length commands.now < 2 ^ 31 }
+    requires few { length commands.now < 2 ^ 30 }
     requires asked { All (λ command. IsAsked command.what) commands.now }
     ensures movie { IfSome (F.state folder.old).held (λ files.
         Gives (λ movie. movie) result (F.state folder.new) (folded files commands.now no_movie)) }
     ensures told { IfSome (F.state folder.old).held (λ _. AllTold (F.state folder.new)) }
     ensures held { IfOk result (Hold (sizes_of (F.state folder.new))) }
-    ensures names { OpensFront (reads commands.now) (length commands.now) (F.state folder.old) (F.state folder.new) }
-    ensures all { OnOk result (OpensAll (reads commands.now) (length commands.now)
-        (F.state folder.old) (F.state folder.new)) }
-    ensures rest { KeepsRest result (F.state folder.old) (F.state folder.new) }
+    ensures folder { OpensFiles result (reads commands.now) (3 * length commands.now) (NeedAll commands.now)
+        (F.state folder.old) (F.state folder.new) }
 {
     let mut movie = Movie::new(alloc);
     for command in commands {
@@ -45,17 +44,15 @@ fn take_step<F: Folder>(
     movie: &mut Movie,
     command: &Command,
 ) -> Result<(), Stop>
-    requires opened { length (F.state folder.old).opened < 2 ^ 32 - 1 }
+    requires opened { length (F.state folder.old).opened < 2 ^ 32 - 3 }
     requires asked { IsAsked command.now.what }
     requires told { IfSome (F.state folder.old).held (λ _. AllTold (F.state folder.old)) }
     requires held { Hold (sizes_of (F.state folder.old)) movie.old }
     ensures movie { IfSome (F.state folder.old).held (λ files. Gives (λ _. movie.new) result (F.state folder.new)
         (step files command.now.place command.now.what (stands_for (told_files (F.state folder.old)) movie.old))) }
-    ensures told { IfSome (F.state folder.old).held (λ _. AllTold (F.state folder.new)) }
     ensures held { OnOk result (Hold (sizes_of (F.state folder.new)) movie.new) }
-    ensures names { OpensFront (names_of command.now.what) 1 (F.state folder.old) (F.state folder.new) }
-    ensures all { OnOk result (OpensAll (names_of command.now.what) 1 (F.state folder.old) (F.state folder.new)) }
-    ensures rest { KeepsRest result (F.state folder.old) (F.state folder.new) }
+    ensures folder { OpensFiles result (names_of command.now.what) 3 (NeedsAll command.now.what)
+        (F.state folder.old) (F.state folder.new) }
 {
     let place = command.place;
     match &command.what {
@@ -72,7 +69,7 @@ fn take_step<F: Folder>(
     }
 }
 
-/// Reads the file of that name, and adds the chosen tracks of its movie.
+/// Reads the input of that name, and adds the chosen tracks of its movie.
 fn add_input<F: Folder>(
     alloc: Global,
     folder: &mut F,
@@ -81,16 +78,14 @@ fn add_input<F: Folder>(
     choice: Choice,
     command: u32,
 ) -> Result<(), Stop>
-    requires opened { length (F.state folder.old).opened < 2 ^ 32 - 1 }
+    requires opened { length (F.state folder.old).opened < 2 ^ 32 - 3 }
     requires told { IfSome (F.state folder.old).held (λ _. AllTold (F.state folder.old)) }
     requires held { Hold (sizes_of (F.state folder.old)) movie.old }
     ensures movie { IfSome (F.state folder.old).held (λ files. Gives (λ _. movie.new) result (F.state folder.new)
         (add_outcome files command name.now choice (stands_for (told_files (F.state folder.old)) movie.old))) }
-    ensures told { IfSome (F.state folder.old).held (λ _. AllTold (F.state folder.new)) }
     ensures held { OnOk result (Hold (sizes_of (F.state folder.new)) movie.new) }
-    ensures names { OpensFront (held_name name.now) 1 (F.state folder.old) (F.state folder.new) }
-    ensures all { OnOk result (OpensAll (held_name name.now) 1 (F.state folder.old) (F.state folder.new)) }
-    ensures rest { KeepsRest result (F.state folder.old) (F.state folder.new) }
+    ensures folder { OpensFiles result (input_names name.now) 3 (is_nhnt (kind_of name.now) ≡ false)
+        (F.state folder.old) (F.state folder.new) }
 {
     files_may_follow();
     let other = match read_input(alloc, folder, name, command) {

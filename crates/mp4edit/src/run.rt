@@ -1,7 +1,7 @@
 // A run: from the words of the line to its ending.
 ghost use Rattle.std.specs.Prelude.{◌≡◌, ◌<◌, ◌^◌, [], None, length, map, string_bytes, IfErr};
 ghost use Rattle.mp4edit.specs.Words.{job, IfDumps, IfEdits};
-ghost use Rattle.mp4edit.specs.Run.{HasCauses, RaisesMisses, AnswersWords, EndsDump, EndsEdit, IsUntouched, SaysNothing};
+ghost use Rattle.mp4edit.specs.Run.{HasCauses, NeedsAllFiles, RaisesMisses, AnswersWords, EndsDump, EndsEdit, IsUntouched, SaysNothing};
 
 use crate::dump::tell_file;
 use crate::edit::{Output, write_movie};
@@ -25,7 +25,8 @@ pub fn mp4edit<F: Folder, R: Report>(
     // Each ending has its cause.
     ensures causes { HasCauses result (F.state folder.old) (F.state folder.new)
         (R.state report.old) (R.state report.new) }
-    ensures misses { RaisesMisses result (F.state folder.old) (F.state folder.new) }
+    ensures misses { RaisesMisses (NeedsAllFiles (job (map string_bytes words.now))) result
+        (F.state folder.old) (F.state folder.new) }
     ensures words { AnswersWords result (job (map string_bytes words.now)) }
     ensures untouched { IfErr (job (map string_bytes words.now)) (λ _.
         IsUntouched (F.state folder.old) (F.state folder.new) (R.state report.old) (R.state report.new)) }

@@ -4,6 +4,7 @@ ghost use Rattle.std.specs.Prelude.{◌≡◌, ◌<◌, [], None, IfOk, vec_len}
 mod dumps;
 mod edits;
 mod endings;
+mod pairs;
 
 use crate::{Ending, WordKind, mp4edit};
 use mp_ports::{Bad, Code, MemFile, MemFolder, MemReport};

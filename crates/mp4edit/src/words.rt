@@ -73,7 +73,10 @@ fn is_built(command: &Command) -> bool
     ensures { result ≡ is_built command.now.what }
 {
     match &command.what {
-        What::Add { name, .. } => matches!(kind_of(name), Some(FileKind::Mp4 | FileKind::Adts)),
+        What::Add { name, .. } => matches!(
+            kind_of(name),
+            Some(FileKind::Mp4 | FileKind::Adts | FileKind::Nhnt)
+        ),
         What::Rem { .. } | What::Lang { .. } | What::Enabled { .. } => true,
         _ => false,
     }

@@ -1,12 +1,16 @@
-use Rattle.std.proofs.Common.{rules, ◌≡◌, ℕ, List, length, sym, subst, ap, Err}
+use Rattle.std.proofs.Common.{rules, ◌≡◌, ◌∙◌, ℕ, List, length, sym, subst, ap, Err}
+use Rattle.mp_ports.specs.Count.{after_fault}
 use Rattle.mp_ports.specs.Folder.{FolderState}
 use Rattle.mp_ports.specs.Report.{FailsToSay, Says}
 use Rattle.mp_movie.specs.Placed.{sample_count}
 use Rattle.mp4edit.specs.declared.ending.Ending.{Ending}
 use Rattle.mp4edit.specs.Line.{line, wrote}
+use Rattle.mp4edit.specs.Names.{NeedAll}
 use Rattle.mp4edit.specs.Outcome.{outcome}
 use Rattle.mp4edit.specs.Reading.{told_files}
 use Rattle.mp4edit.specs.Run.{SaysText, Tells, edit_of}
+use Rattle.mp4edit.proofs.Endings.{movie_completes, report_rose, rose_by}
+use Rattle.mp4edit.proofs.FilesInTurn.{misses_still}
 use Rattle.mp4edit.proofs.Outcomes.{created_front, front_is_told, line_is, of_outcome, written_is_told}
 use Rattle.mp4edit.proofs.edit.write_movie.Goals as goal
 
@@ -17,7 +21,7 @@ returns-in-Err-ReadFault-clause-told g c =
     let s = g.F.Folder.state c.plan_movie.new.folder in
     let new = g.F.Folder.state c.write_file.new.folder in
     let old = g.F.Folder.state c.args.folder.now in
-    let same : s.written ≡ old.written = ap (λ (x : FolderState). x.written) c.in-Ok.ensures.rest in
+    let same : s.written ≡ old.written = ap (λ (x : FolderState). x.written) c.in-Ok.ensures.folder.rest in
     let edit = edit_of c.args.commands.now c.args.output in
     of_outcome held s c.in-Ok.planned.0 (outcome edit) (λ o. Tells Ending.ReadFault o c.args.output.window old new) c.in-Ok.ensures.movie c.in-Ok.ensures.told c.in-Ok.ensures.held
     (λ told. created_front old s new _ _ _ same told (c.in-Err-ReadFault.ensures.read _ c.in-Ok.ensures.plan (ap Err c.in-Err-ReadFault.field-0-is)).left)
@@ -29,7 +33,7 @@ returns-in-Err-WriteFault-clause-told g c =
     let s = g.F.Folder.state c.plan_movie.new.folder in
     let new = g.F.Folder.state c.write_file.new.folder in
     let old = g.F.Folder.state c.args.folder.now in
-    let same : s.written ≡ old.written = ap (λ (x : FolderState). x.written) c.in-Ok.ensures.rest in
+    let same : s.written ≡ old.written = ap (λ (x : FolderState). x.written) c.in-Ok.ensures.folder.rest in
     let edit = edit_of c.args.commands.now c.args.output in
     of_outcome held s c.in-Ok.planned.0 (outcome edit) (λ o. Tells Ending.WriteFault o c.args.output.window old new) c.in-Ok.ensures.movie c.in-Ok.ensures.told c.in-Ok.ensures.held
     (λ told. front_is_told old s new _ _ _ same told (c.in-Err-WriteFault.ensures.write _ c.in-Ok.ensures.plan (ap Err c.in-Err-WriteFault.field-0-is)).left)
@@ -41,7 +45,7 @@ returns-then-is_err-clause-told g c =
     let s = g.F.Folder.state c.plan_movie.new.folder in
     let new = g.F.Folder.state c.write_file.new.folder in
     let old = g.F.Folder.state c.args.folder.now in
-    let same : s.written ≡ old.written = ap (λ (x : FolderState). x.written) c.in-Ok.ensures.rest in
+    let same : s.written ≡ old.written = ap (λ (x : FolderState). x.written) c.in-Ok.ensures.folder.rest in
     let edit = edit_of c.args.commands.now c.args.output in
     of_outcome held s c.in-Ok.planned.0 (outcome edit) (λ o. Tells Ending.ReportFault o c.args.output.window old new) c.in-Ok.ensures.movie c.in-Ok.ensures.told c.in-Ok.ensures.held
     (λ told. written_is_told old s new _ _ _ _ same c.in-Ok.ensures.plan told (c.in-Ok-write_file.ensures.whole _ c.in-Ok.ensures.plan))
@@ -66,7 +70,7 @@ returns-clause-told g c =
     let s = g.F.Folder.state c.plan_movie.new.folder in
     let new = g.F.Folder.state c.write_file.new.folder in
     let old = g.F.Folder.state c.args.folder.now in
-    let same : s.written ≡ old.written = ap (λ (x : FolderState). x.written) c.in-Ok.ensures.rest in
+    let same : s.written ≡ old.written = ap (λ (x : FolderState). x.written) c.in-Ok.ensures.folder.rest in
     let edit = edit_of c.args.commands.now c.args.output in
     of_outcome held s c.in-Ok.planned.0 (outcome edit) (λ o. Tells Ending.Done o c.args.output.window old new) c.in-Ok.ensures.movie c.in-Ok.ensures.told c.in-Ok.ensures.held
     (λ told. written_is_told old s new _ _ _ _ same c.in-Ok.ensures.plan told (c.in-Ok-write_file.ensures.whole _ c.in-Ok.ensures.plan))
@@ -87,3 +91,58 @@ returns-clause-said g c =
 -- the plan is that of the movie
 pub write_file-requires-clause-plan : goal.write_file-requires-clause-plan
 write_file-requires-clause-plan g c = record { millis = c.args.output.window; is = c.in-Ok.ensures.plan }
+
+pub returns-in-Err-WriteFault-clause-misses : goal.returns-in-Err-WriteFault-clause-misses
+returns-in-Err-WriteFault-clause-misses g c =
+    let s = g.F.Folder.state c.plan_movie.new.folder in
+    let new = g.F.Folder.state c.write_file.new.folder in
+    let old = g.F.Folder.state c.args.folder.now in
+    misses_still (NeedAll c.args.commands.now) old s new c.in-Ok.ensures.folder.misses (ap (λ (x : FolderState). x.misses) (c.in-Err-WriteFault.ensures.write _ c.in-Ok.ensures.plan (ap Err c.in-Err-WriteFault.field-0-is)).state)
+
+pub returns-then-is_err-clause-misses : goal.returns-then-is_err-clause-misses
+returns-then-is_err-clause-misses g c =
+    let s = g.F.Folder.state c.plan_movie.new.folder in
+    let new = g.F.Folder.state c.write_file.new.folder in
+    let old = g.F.Folder.state c.args.folder.now in
+    misses_still (NeedAll c.args.commands.now) old s new c.in-Ok.ensures.folder.misses (ap (λ (x : FolderState). x.misses) (c.in-Ok-write_file.ensures.whole _ c.in-Ok.ensures.plan).state)
+
+pub returns-clause-misses : goal.returns-clause-misses
+returns-clause-misses g c =
+    let s = g.F.Folder.state c.plan_movie.new.folder in
+    let new = g.F.Folder.state c.write_file.new.folder in
+    let old = g.F.Folder.state c.args.folder.now in
+    misses_still (NeedAll c.args.commands.now) old s new c.in-Ok.ensures.folder.misses (ap (λ (x : FolderState). x.misses) (c.in-Ok-write_file.ensures.whole _ c.in-Ok.ensures.plan).state)
+
+pub returns-in-Err-ReadFault-clause-complete : goal.returns-in-Err-ReadFault-clause-complete
+returns-in-Err-ReadFault-clause-complete g c =
+    let s = g.F.Folder.state c.plan_movie.new.folder in
+    let new = g.F.Folder.state c.write_file.new.folder in
+    let old = g.F.Folder.state c.args.folder.now in
+    let report = g.R.Report.state c.args.report.now in
+    let is : new.read_faults ≡ after_fault old.read_faults =
+    ap (λ (x : FolderState). x.read_faults) (c.in-Err-ReadFault.ensures.read _ c.in-Ok.ensures.plan (ap Err c.in-Err-ReadFault.field-0-is)).state ∙ ap (λ (x : FolderState). after_fault x.read_faults) c.in-Ok.ensures.folder.rest in
+    movie_completes old.held (outcome (edit_of c.args.commands.now c.args.output)) s c.in-Ok.planned.0 Ending.ReadFault old new report report c.in-Ok.ensures.movie
+    (λ read write report. absurd (read (rose_by old.read_faults new.read_faults is)))
+
+pub returns-in-Err-WriteFault-clause-complete : goal.returns-in-Err-WriteFault-clause-complete
+returns-in-Err-WriteFault-clause-complete g c =
+    let s = g.F.Folder.state c.plan_movie.new.folder in
+    let new = g.F.Folder.state c.write_file.new.folder in
+    let old = g.F.Folder.state c.args.folder.now in
+    let report = g.R.Report.state c.args.report.now in
+    let is : new.write_faults ≡ after_fault old.write_faults =
+    ap (λ (x : FolderState). x.write_faults) (c.in-Err-WriteFault.ensures.write _ c.in-Ok.ensures.plan (ap Err c.in-Err-WriteFault.field-0-is)).state ∙ ap (λ (x : FolderState). after_fault x.write_faults) c.in-Ok.ensures.folder.rest in
+    movie_completes old.held (outcome (edit_of c.args.commands.now c.args.output)) s c.in-Ok.planned.0 Ending.WriteFault old new report report c.in-Ok.ensures.movie
+    (λ read write report. absurd (write (rose_by old.write_faults new.write_faults is)))
+
+pub returns-then-is_err-clause-complete : goal.returns-then-is_err-clause-complete
+returns-then-is_err-clause-complete g c =
+    let s = g.F.Folder.state c.plan_movie.new.folder in
+    let new = g.F.Folder.state c.write_file.new.folder in
+    let old = g.F.Folder.state c.args.folder.now in
+    let before = g.R.Report.state c.args.report.now in
+    let after = g.R.Report.state c.say.new.self in
+    let planned = c.in-Ok.planned in
+    let said : FailsToSay before after (wrote c.args.output.name (length planned.0.tracks) (sample_count planned.0.tracks) planned.1.length) = search rules in
+    movie_completes old.held (outcome (edit_of c.args.commands.now c.args.output)) s planned.0 Ending.ReportFault old new before after c.in-Ok.ensures.movie
+    (λ read write report. absurd (report (report_rose before after _ said)))

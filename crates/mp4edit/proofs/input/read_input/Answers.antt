@@ -1,20 +1,26 @@
-use Rattle.std.proofs.Common.{rules, Ok, Err}
+use Rattle.std.proofs.Common.{◌≡◌, true, false, sym}
 use Rattle.mp_movie.specs.Placed.{PlacedMovie}
-use Rattle.mp4edit.proofs.Inputs.{fail_gives, movie_gives, opens_all, reads_same}
-use Rattle.mp4edit.proofs.NamesInTurn.{front_of_all}
-use Rattle.mp4edit.proofs.ToldFiles.{is_open, lies_is_held, still_told}
+use Rattle.mp_words.specs.Names.{kind_of}
+use Rattle.mp4edit.specs.Names.{is_nhnt}
+use Rattle.mp4edit.proofs.Pairs.{file_input_gives, one_file, pair_files, pair_input_gives}
 use Rattle.mp4edit.proofs.input.read_input.Goals as goal
 
-pub returns-in-Ok-read_opened-clause-names : goal.returns-in-Ok-read_opened-clause-names
-returns-in-Ok-read_opened-clause-names g c =
-    front_of_all _ _ _ _ (opens_all _ _ _ _ _ c.in-Ok.ensures.opened (reads_same (Ok c.in-Ok-read_opened.movie) _ _ c.in-Ok-read_opened.ensures.folder))
+pub returns-then-is_nhnt-clause-movie : goal.returns-then-is_nhnt-clause-movie
+returns-then-is_nhnt-clause-movie g c =
+    let is : is_nhnt (kind_of c.args.name.now) ≡ true = sym c.if-is_nhnt.ensures in
+    pair_input_gives _ (kind_of c.args.name.now) c.args.name.now c.args.command c.read_pair.result _ is c.read_pair.ensures.movie
 
-pub returns-in-Err-clause-movie : goal.returns-in-Err-clause-movie
-returns-in-Err-clause-movie g c = rw c.of_read.ensures (fail_gives _ _ _ _ c.kind_of.result _ _ c.in-Err.fail c.in-Ok.ensures.opened c.kind_of.ensures c.in-Err.ensures.movie)
+pub returns-then-is_nhnt-clause-folder : goal.returns-then-is_nhnt-clause-folder
+returns-then-is_nhnt-clause-folder g c =
+    let is : is_nhnt (kind_of c.args.name.now) ≡ true = sym c.if-is_nhnt.ensures in
+    pair_files PlacedMovie c.read_pair.result (kind_of c.args.name.now) c.args.name.now _ _ is c.read_pair.ensures.folder
 
-pub returns-in-Err-clause-told : goal.returns-in-Err-clause-told
-returns-in-Err-clause-told g c =
-    let s = g.F.Folder.state c.args.folder.now in
-    let t = g.F.Folder.state c.open.new.self in
-    let u = g.F.Folder.state c.read_opened.new.folder in
-    still_told s t u c.args.name.now c.in-Ok.file c.in-Ok.ensures.opened (reads_same {A = PlacedMovie} (Err c.in-Err.fail) t u c.in-Err.ensures.folder)
+pub returns-clause-movie : goal.returns-clause-movie
+returns-clause-movie g c =
+    let is : is_nhnt (kind_of c.args.name.now) ≡ false = sym c.if-is_nhnt.ensures in
+    file_input_gives _ (kind_of c.args.name.now) c.args.name.now c.args.command c.read_file.result _ is c.read_file.ensures.movie
+
+pub returns-clause-folder : goal.returns-clause-folder
+returns-clause-folder g c =
+    let is : is_nhnt (kind_of c.args.name.now) ≡ false = sym c.if-is_nhnt.ensures in
+    one_file PlacedMovie c.read_file.result (kind_of c.args.name.now) c.args.name.now _ _ is c.read_file.ensures.folder

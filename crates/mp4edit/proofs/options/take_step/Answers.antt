@@ -1,10 +1,12 @@
-use Rattle.std.proofs.Common.{rules, IfSome, OnOk}
+use Rattle.std.proofs.Common.{rules, ◌≡◌, IfSome, OnOk, refl, sym, subst}
 use Rattle.mp_pieces.specs.Copied.{sizes_of}
 use Rattle.mp_movie.specs.StandsFor.{Hold, stands_for}
 use Rattle.track_ops.specs.Tracks.{remove, set_enabled, set_language}
+use Rattle.mp_words.specs.Jobs.{Asked, Enables, Removes, SetsLanguage}
+use Rattle.mp4edit.specs.Names.{NeedsAll, names_of}
 use Rattle.mp4edit.specs.Outcome.{applied}
-use Rattle.mp4edit.specs.Reading.{Gives, told_files}
-use Rattle.mp4edit.proofs.Folds.{done_gives, done_holds}
+use Rattle.mp4edit.specs.Reading.{Gives, OpensFiles, told_files}
+use Rattle.mp4edit.proofs.Folds.{done_gives, done_holds, opens_no_file}
 use Rattle.mp4edit.proofs.options.take_step.Goals as goal
 
 pub returns-in-Rem-clause-movie : goal.returns-in-Rem-clause-movie
@@ -51,3 +53,30 @@ returns-in-Enabled-clause-held g c =
     let held : OnOk c.of_done-in-Enabled.result (Hold (sizes_of s) c.set_enabled.new.movie) =
     rw c.of_done-in-Enabled.ensures (done_holds (sizes_of s) c.command.inside.place (set_enabled c.in-Enabled.number c.in-Enabled.on) c.args.movie.now c.set_enabled.new.movie c.set_enabled.result c.requires.held c.set_enabled.ensures) in
     search (rules, held)
+
+pub returns-in-Rem-clause-folder : goal.returns-in-Rem-clause-folder
+returns-in-Rem-clause-folder g c =
+    let s = g.F.Folder.state c.args.folder.now in
+    let what = Removes c.in-Rem.number in
+    let is : c.args.command.now.what ≡ what = search rules in
+    let opens : OpensFiles {A = Unit} c.of_done.result (names_of what) 3 (NeedsAll what) s s =
+    rw c.of_done.ensures (opens_no_file what (NeedsAll what) c.command.inside.place c.remove.result s (λ files. refl)) in
+    subst (λ (w : Asked). OpensFiles {A = Unit} c.of_done.result (names_of w) 3 (NeedsAll w) s s) (sym is) opens
+
+pub returns-in-Lang-clause-folder : goal.returns-in-Lang-clause-folder
+returns-in-Lang-clause-folder g c =
+    let s = g.F.Folder.state c.args.folder.now in
+    let what = SetsLanguage c.in-Lang.number c.in-Lang.letters in
+    let is : c.args.command.now.what ≡ what = search rules in
+    let opens : OpensFiles {A = Unit} c.of_done-in-Lang.result (names_of what) 3 (NeedsAll what) s s =
+    rw c.of_done-in-Lang.ensures (opens_no_file what (NeedsAll what) c.command.inside.place c.set_language.result s (λ files. refl)) in
+    subst (λ (w : Asked). OpensFiles {A = Unit} c.of_done-in-Lang.result (names_of w) 3 (NeedsAll w) s s) (sym is) opens
+
+pub returns-in-Enabled-clause-folder : goal.returns-in-Enabled-clause-folder
+returns-in-Enabled-clause-folder g c =
+    let s = g.F.Folder.state c.args.folder.now in
+    let what = Enables c.in-Enabled.number c.in-Enabled.on in
+    let is : c.args.command.now.what ≡ what = search rules in
+    let opens : OpensFiles {A = Unit} c.of_done-in-Enabled.result (names_of what) 3 (NeedsAll what) s s =
+    rw c.of_done-in-Enabled.ensures (opens_no_file what (NeedsAll what) c.command.inside.place c.set_enabled.result s (λ files. refl)) in
+    subst (λ (w : Asked). OpensFiles {A = Unit} c.of_done-in-Enabled.result (names_of w) 3 (NeedsAll w) s s) (sym is) opens

@@ -4,7 +4,7 @@ use Rattle.mp_words.specs.Jobs.{Dumps, Edits}
 use Rattle.mp4edit.specs.Run.{edit_of}
 use Rattle.mp4edit.specs.Words.{job}
 use Rattle.mp4edit.specs.Written.{OutputRecord}
-use Rattle.mp4edit.proofs.Jobs.{dump_ends, dump_is_not_begun, edit_ends}
+use Rattle.mp4edit.proofs.Jobs.{dump_ends, dump_is_not_begun, edit_ends, edit_misses}
 use Rattle.mp4edit.proofs.run.mp4edit.Goals as goal
 
 pub returns-in-Ok-Edit-clause-edit : goal.returns-in-Ok-Edit-clause-edit
@@ -26,3 +26,11 @@ returns-in-Ok-Dump-clause-dump g c =
 
 pub returns-in-Err-NoMemory-clause-dump : goal.returns-in-Err-NoMemory-clause-dump
 returns-in-Err-NoMemory-clause-dump g c = dump_is_not_begun (job (map string_bytes c.args.words.now)) _ _ c.requires.output
+
+pub returns-in-Ok-Edit-clause-misses : goal.returns-in-Ok-Edit-clause-misses
+returns-in-Ok-Edit-clause-misses g c =
+    let output : OutputRecord = record { name = string_bytes c.in-Ok-Edit.out; command = c.in-Ok-Edit.out_command; window = c.in-Ok-Edit.window } in
+    let commands : c.in-Ok-Edit.commands.items ≡ c.deref.result.now = search rules in
+    edit_misses (job (map string_bytes c.args.words.now)) (edit_of c.deref.result.now output) c.write_movie.result _ _
+    (c.in-Ok-Edit.ensures.job ∙ (ap (λ j. Ok (job_record j)) c.in-Ok-Edit.field-0-is ∙ ap (λ l. Ok (Edits (edit_of l output))) commands))
+    c.write_movie.ensures.misses
