@@ -1,5 +1,7 @@
 //! Numbers and fields of heads, worked out by hand.
 
+mod times;
+
 use crate::heads::{HeadChange, change_all};
 use crate::numbers::all_numbers;
 use crate::removal::keep_others;
