@@ -5,3 +5,4 @@ pub mod LeastScales
 pub mod Shapes
 pub mod Telling
 pub mod Multiples
+pub mod Touches

@@ -1,5 +1,5 @@
 -- The pieces of an edit list from one time up to another, in ticks of other scales (ISO/IEC 14496-12, 8.6.6).
-use Rattle.std.specs.Prelude.{ℕ, ◌*◌, ◌^◌, ◌<◌, pos, ◌≤ℤ◌, unsigned_abs, List, [], ◌∷◌, map}
+use Rattle.std.specs.Prelude.{ℕ, ◌+◌, ◌*◌, ◌^◌, ◌<◌, ◌≤◌, pos, ◌≤ℤ◌, unsigned_abs, List, [], ◌∷◌, map}
 use Rattle.std.specs.List.{AllZip, AllByRecursion}
 use Rattle.mp_frac.specs.declared.time.Frac.{Frac}
 use Rattle.mp_frac.specs.Time.{IsInRange, IsWhole, in_ticks}
@@ -35,10 +35,17 @@ pub record IsRange (from to : Frac) : Type 0 where
   pub begin : pos 0 ≤ℤ from.n
   pub end : pos 0 ≤ℤ to.n
 
--- in the new scales each start of the pieces is whole and below 2^62, and so is each duration, and their sum
-pub record CanTell (unit new_media new_movie : ℕ) (pieces : List Segment) : Type 0 where
+-- a segment whose start is so many ticks later
+abbrev pub later : ℕ → Segment → Segment
+later by (Empty dur) = Empty dur
+later by (Media start dur) = Media (start + by) dur
+
+-- in the new scales each start of the pieces is whole, and at tick `back` or less than 2^62 ticks behind it; each duration is whole, and
+-- their sum below 2^62
+pub record CanTell (unit new_media new_movie back : ℕ) (pieces : List Segment) : Type 0 where
   pub whole_starts : AllByRecursion (IsWhole new_media) (as_times unit (starts pieces))
-  pub early : AllByRecursion (λ start. start * new_media < 2 ^ 62 * unit) (starts pieces)
+  pub late : AllByRecursion (λ start. back * unit ≤ start * new_media) (starts pieces)
+  pub early : AllByRecursion (λ start. start * new_media < (2 ^ 62 + back) * unit) (starts pieces)
   pub whole_durations : AllByRecursion (IsWhole new_movie) (as_times unit (map duration pieces))
   pub short : total pieces * new_movie < 2 ^ 62 * unit
 
@@ -46,9 +53,13 @@ pub record CanTell (unit new_media new_movie : ℕ) (pieces : List Segment) : Ty
 abbrev pub Tells : (unit new_media new_movie : ℕ) → (pieces made : List Segment) → Type 0
 Tells unit new_media new_movie pieces made = AllZip (IsSameSegment unit new_movie unit new_media) pieces made
 
--- the pieces of an edit list can be told in these scales, and are told so
-abbrev pub CanClip : (media movie : ℕ) → (from to : Frac) → List Segment → (new_media new_movie : ℕ) → Type 0
-CanClip media movie from to edits new_media new_movie = CanTell (unit media movie from to) new_media new_movie (clipped media movie from to edits)
+-- so are they told, each start so many ticks earlier
+abbrev pub TellsBack : (unit new_media new_movie back : ℕ) → (pieces made : List Segment) → Type 0
+TellsBack unit new_media new_movie back pieces made = AllZip (λ piece one. IsSameSegment unit new_movie unit new_media piece (later back one)) pieces made
 
-abbrev pub IsClip : (media movie : ℕ) → (from to : Frac) → List Segment → (new_media new_movie : ℕ) → List Segment → Type 0
-IsClip media movie from to edits new_media new_movie made = Tells (unit media movie from to) new_media new_movie (clipped media movie from to edits) made
+-- the pieces of an edit list can be told in these scales, and are told so
+abbrev pub CanClip : (media movie : ℕ) → (from to : Frac) → List Segment → (new_media new_movie back : ℕ) → Type 0
+CanClip media movie from to edits new_media new_movie back = CanTell (unit media movie from to) new_media new_movie back (clipped media movie from to edits)
+
+abbrev pub IsClip : (media movie : ℕ) → (from to : Frac) → List Segment → (new_media new_movie back : ℕ) → List Segment → Type 0
+IsClip media movie from to edits new_media new_movie back made = TellsBack (unit media movie from to) new_media new_movie back (clipped media movie from to edits) made

@@ -1,5 +1,5 @@
 -- Pieces without products above 128 bits: a start in parts of a tick of the media, a length in parts of a tick of the movie.
-use Rattle.std.specs.Prelude.{◌≡◌, ℕ, ◌+◌, ◌-◌, ◌*◌, ◌^◌, ◌<◌, min, nat_lt, false, IfSome, if◌then◌else◌, List, [], ◌∷◌, ◌++◌, map, Option, Some, None, sum_by}
+use Rattle.std.specs.Prelude.{◌≡◌, ℕ, ◌+◌, ◌-◌, ◌*◌, ◌^◌, ◌<◌, ◌≤◌, min, nat_lt, false, IfSome, if◌then◌else◌, List, [], ◌∷◌, ◌++◌, map, Option, Some, None, sum_by}
 use Rattle.mp_timeline.specs.declared.segment.Segment.{Segment}
 use Rattle.mp_timeline.specs.declared.segment.Segment.TheVariants.{Empty, Media}
 use Rattle.mp_timeline.specs.Same.{IsSameSegment}
@@ -7,7 +7,8 @@ use Rattle.std.specs.Int.{◌∣◌}
 use Rattle.mp_edits.specs.Segments.{duration, starts_late}
 use Rattle.mp_clip.specs.declared.cut.Cut.{Cut}
 use Rattle.mp_clip.specs.declared.cut.Scales.{Scales}
-use Rattle.mp_clip.specs.Clipped.{Tells}
+use Rattle.mp_clip.specs.declared.clipping.NewScales.{NewScales}
+use Rattle.mp_clip.specs.Clipped.{TellsBack, later}
 
 -- a segment neither lasts nor starts at 2^62 ticks or more
 pub record IsShort (segment : Segment) : Type 0 where
@@ -66,24 +67,29 @@ cut_lengths cuts = map (λ cut. cut.length) cuts
 abbrev pub cut_total : List Cut → ℕ
 cut_total cuts = sum_by (λ cut. cut.length) cuts
 
--- a number of parts is a whole number of ticks of the scale, below 2^62
-pub record IsExact (ticks parts scale : ℕ) : Type 0 where
+-- a number of parts is a whole number of ticks of the scale, `back` or less than 2^62 more
+pub record IsExact (back ticks parts scale : ℕ) : Type 0 where
   pub whole : parts ∣ ticks * scale
-  pub early : ticks * scale < 2 ^ 62 * parts
+  pub late : back * parts ≤ ticks * scale
+  pub early : ticks * scale < (2 ^ 62 + back) * parts
 
--- so are the start and the length of a piece
-pub record CanTellCut (scales : Scales) (new_media new_movie : ℕ) (cut : Cut) : Type 0 where
-  pub start : IfSome cut.start (λ start. IsExact start (scales.media * (scales.movie * scales.from)) new_media)
-  pub length : IsExact cut.length (scales.movie * (scales.from * scales.to)) new_movie
+-- so are the start of a piece, and its length with nothing for `back`
+pub record CanTellCut (scales : Scales) (new : NewScales) (cut : Cut) : Type 0 where
+  pub start : IfSome cut.start (λ start. IsExact new.back start (scales.media * (scales.movie * scales.from)) new.media)
+  pub length : IsExact 0 cut.length (scales.movie * (scales.from * scales.to)) new.movie
 
--- the piece in ticks of the new scales
-abbrev pub TellsCut : Scales → (new_media new_movie : ℕ) → Cut → Segment → Type 0
-TellsCut scales new_media new_movie cut made = IsSameSegment (unit_of scales) new_movie (unit_of scales) new_media (piece_of scales cut) made
+-- pieces in ticks of the new scales
+abbrev pub AreTold : Scales → NewScales → (pieces made : List Segment) → Type 0
+AreTold scales new pieces made = TellsBack (unit_of scales) new.media new.movie new.back pieces made
+
+-- a piece in ticks of the new scales
+abbrev pub TellsCut : Scales → NewScales → Cut → Segment → Type 0
+TellsCut scales new cut made = IsSameSegment (unit_of scales) new.movie (unit_of scales) new.media (piece_of scales cut) (later new.back made)
 
 -- the pieces of cuts in ticks of the new scales
-abbrev pub TellsCuts : Scales → (new_media new_movie : ℕ) → List Cut → List Segment → Type 0
-TellsCuts scales new_media new_movie cuts made = Tells (unit_of scales) new_media new_movie (map (piece_of scales) cuts) made
+abbrev pub TellsCuts : Scales → NewScales → List Cut → List Segment → Type 0
+TellsCuts scales new cuts made = AreTold scales new (map (piece_of scales) cuts) made
 
 -- the pieces that are left, told behind those that are made, make all
-pub record LeadsTo (scales : Scales) (new_media new_movie : ℕ) (all made : List Segment) (left : List Cut) : Type 0 where
-  pub each : (later : List Segment) → Tells (unit_of scales) new_media new_movie (map (piece_of scales) left) later → Tells (unit_of scales) new_media new_movie all (made ++ later)
+pub record LeadsTo (scales : Scales) (new : NewScales) (all made : List Segment) (left : List Cut) : Type 0 where
+  pub each : (others : List Segment) → AreTold scales new (map (piece_of scales) left) others → AreTold scales new all (made ++ others)

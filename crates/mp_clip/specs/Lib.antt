@@ -3,3 +3,4 @@ pub mod Shape
 pub mod Law
 pub mod Cut
 pub mod Counted
+pub mod Touched

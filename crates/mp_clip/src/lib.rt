@@ -8,8 +8,10 @@ mod cut;
 mod law;
 mod shape;
 mod tally;
+mod touching;
 
-pub use clipping::clip;
+pub use clipping::{clip, clip_back};
 pub use law::{divisors_give_scales, shapes_can_be_told};
 pub use shape::{ClipShape, clip_shape, grown_scale};
 pub use tally::common_divisor;
+pub use touching::{Span, touched};

@@ -42,3 +42,9 @@ pub mod DelayShows
 pub mod DelayAsked
 pub mod DelayFound
 pub mod Examples
+pub mod SameTimes
+pub mod SeenTracks
+pub mod SeenCommands
+pub mod SeenScales
+pub mod SeenDelays
+pub mod SeenChanges

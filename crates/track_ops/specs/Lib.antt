@@ -8,9 +8,13 @@ pub mod Ticks
 pub mod SetScales
 pub mod Delay
 pub mod Later
+pub mod Moments
+pub mod CutAndJoined
+pub mod SeenLaw
 pub mod Does
 pub mod Kept
 pub mod Summed
 pub mod KeptTimes
 pub mod KeptShown
 pub mod Wide
+pub mod Law

@@ -68,7 +68,8 @@ fn show(parts: &mut MovieParts, at: usize, showing: Showing)
     requires inside { at < length parts.old.tracks }
     requires old { 0 < parts.old.scale }
     requires media { 0 < showing.media }
-    requires short { (track : PlacedTrack) → All (λ track. All (CanLast parts.old.scale showing.movie) (segments_in track.edits))
+    requires short { (track : PlacedTrack)
+        → All (λ track. All (CanLast parts.old.scale showing.movie) (segments_in track.edits))
         (without_edits at (get_or parts.old.tracks at track) parts.old.tracks) }
     requires track { (track : PlacedTrack) → CanRetimeTrack showing.media (get_or parts.old.tracks at track) }
     ensures media_below { showing.media < 2 ^ 32 }

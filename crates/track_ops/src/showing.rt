@@ -47,10 +47,12 @@ pub(crate) fn make_showing(
 ) -> Result<Showing, Fail>
     requires inside { at < length movie.now.tracks }
     ensures shown { (track : PlacedTrack) → Gives refusal
-        (λ made. kept_shown at (get_or movie.now.tracks at track) made.media made.edits.items made.movie movie.now) result
+        (λ made. kept_shown at (get_or movie.now.tracks at track) made.media made.edits.items made.movie movie.now)
+        result
         (placed 0 (kept_reshown at movie.now (get_or movie.now.tracks at track) (as_segments segments.now))) }
     ensures showing { (track : PlacedTrack) → IfOk result
-        (λ made. IsShowing at movie.now (get_or movie.now.tracks at track) (as_segments segments.now) made.media made.edits.items made.movie) }
+        (λ made. IsShowing at movie.now (get_or movie.now.tracks at track)
+        (as_segments segments.now) made.media made.edits.items made.movie) }
 {
     divisors_give_scales();
     wholeness_is_division();

@@ -111,8 +111,8 @@ fn own_segments(alloc: Global, movie_scale: u32, track: &Track) -> Result<Vec<Wi
 /// The segments of the track follow, or one of its whole media where it has no edit list.
 fn push_segments(segments: &mut Vec<Wide>, movie_scale: u32, track: &Track) -> Result<(), NoMemory>
     requires { CanWiden track.now }
-    ensures { (files : List (List ℕ)) → OnOk result
-        (as_segments segments.new.items ≡ as_segments segments.old.items ++ explicit movie_scale (track_for files track.now) 1000) }
+    ensures { (files : List (List ℕ)) → OnOk result (as_segments segments.new.items
+        ≡ as_segments segments.old.items ++ explicit movie_scale (track_for files track.now) 1000) }
 {
     let of_start = u64::from(movie_scale) * 1000;
     let of_length = u64::from(track.scale) * 1000;
