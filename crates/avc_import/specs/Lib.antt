@@ -1,0 +1,11 @@
+pub mod Sets
+pub mod SliceHeader
+pub mod Unit
+pub mod Ranking
+pub mod Times
+pub mod Film
+pub mod Stream
+pub mod Pictures
+pub mod Judged
+pub mod Places
+pub mod Movie
