@@ -1,8 +1,8 @@
 -- How a job ends, by what it comes to.
-use Rattle.std.proofs.Common.{◌≡◌, ◌≤◌, ℕ, List, [], Option, Some, None, All, Ok, Err, IfSome, IsSomeAnd, length, inl, inr, refl, sym, subst, ap, arith}
+use Rattle.std.proofs.Common.{◌≡◌, ◌≤◌, ℕ, List, [], Option, Some, None, Err, IfSome, IsSomeAnd, length, inl, inr, refl, sym, subst, ap, ◌∙◌, arith}
 use Rattle.std.proofs.lemmas.List.Elements.{All-nil}
 use Rattle.mp_ports.specs.Count.{Rose, after_fault}
-use Rattle.mp_ports.specs.Folder.{FolderState, HeldFile, OpenedFile}
+use Rattle.mp_ports.specs.Folder.{FolderState, HeldFile, OpenedFile, Output}
 use Rattle.mp_ports.specs.Report.{FailsToSay, ReportState}
 use Rattle.mp_movie.specs.Placed.{PlacedMovie}
 use Rattle.mp_movie.specs.StandsFor.{stands_for}
@@ -10,7 +10,7 @@ use Rattle.mp4edit.specs.declared.ending.Ending.{Ending}
 use Rattle.mp4edit.specs.declared.stop.Stop.{Stop}
 use Rattle.mp4edit.specs.Outcome.{Outcome, Absent, Movie, Refusal}
 use Rattle.mp4edit.specs.Reading.{AllTold, Gives, KeepsRest, told_files}
-use Rattle.mp4edit.specs.Run.{Completes, EndsAt, TellsFault}
+use Rattle.mp4edit.specs.Run.{Completes, EndsAt, HasWrittenFront, Tells, TellsFault}
 use Rattle.mp4edit.specs.Status.{ending_of}
 
 -- where nothing is opened, all that is opened is told, and so it is at the end
@@ -29,6 +29,20 @@ stop_tells movie_in (Some files) outcome_by (Stop.Bad bad) s gives = gives
 stop_tells movie_in (Some files) outcome_by (Stop.Missing command) s gives = gives
 stop_tells movie_in (Some files) outcome_by Stop.ReadFault s gives = tt
 stop_tells movie_in (Some files) outcome_by Stop.NoMemory s gives = tt
+
+-- so is it of a job that writes, which has created nothing then
+pub stop_is_told : {A : Type 0} (movie_in : A → PlacedMovie) (held : Option (List HeldFile)) (outcome_by : List HeldFile → Outcome) (stop : Stop) (window : ℕ) (old new : FolderState)
+    → old.output ≡ None → KeepsRest {A = A} (Err stop) old new → IfSome held (λ files. Gives movie_in (Err stop) new (outcome_by files))
+    → IfSome held (λ files. Tells (ending_of stop) (outcome_by files) window old new)
+stop_is_told movie_in None outcome_by stop window old new none rest gives = tt
+stop_is_told movie_in (Some files) outcome_by (Stop.Bad bad) window old new none rest gives = gives
+stop_is_told movie_in (Some files) outcome_by (Stop.Missing command) window old new none rest gives = gives
+stop_is_told movie_in (Some files) outcome_by Stop.ReadFault window old new none rest gives =
+    of_none new.output (HasWrittenFront (outcome_by files) window old new) (ap (λ (s : FolderState). s.output) rest ∙ none)
+  where
+    of_none : (output : Option Output) (P : Type 0) → output ≡ None → IfSome output (λ _. P)
+    of_none output P is = rw is tt
+stop_is_told movie_in (Some files) outcome_by Stop.NoMemory window old new none rest gives = tt
 
 -- a failed read may end any job
 read_fault_ends : (outcome : Outcome) (old new : FolderState) (before after : ReportState) → Rose old.read_faults new.read_faults → Completes Ending.ReadFault outcome old new before after

@@ -1,13 +1,13 @@
 -- Calls that open files, one behind another.
-use Rattle.std.proofs.Common.{◌≡◌, ◌+◌, ◌≤◌, ◌⊎◌, ℕ, List, [], ◌∷◌, ◌++◌, is_some, if◌then◌else◌, option_and_then, Option, Some, None, Result, Ok, Err, IfSome, inl, inr, length, refl, sym, subst, ap, ◌∙◌, arith}
+use Rattle.std.proofs.Common.{◌≡◌, ◌+◌, ◌≤◌, ◌⊎◌, ℕ, List, [], ◌∷◌, ◌++◌, is_some, if◌then◌else◌, option_and_then, Option, Some, None, Result, Ok, Err, IfSome, inl, inr, refl, sym, subst, ap, ◌∙◌, arith}
 use Rattle.std.proofs.lemmas.List.{append-nil}
 use Rattle.mp_ports.specs.declared.fault.Fail.{Fail}
 use Rattle.mp_ports.specs.declared.fault.ReadFail.{ReadFail}
 use Rattle.mp_ports.specs.Count.{Rose, after_fault}
-use Rattle.mp_ports.specs.Folder.{FailsToRead, FolderState, HeldFile, Misses, OpenedFile, Opens, bytes_under, held_under}
+use Rattle.mp_ports.specs.Folder.{FailsToRead, FolderState, HeldFile, Misses, OpenedFile, Opens, bytes_under}
 use Rattle.mp_ports.specs.Reading.{OnlyReads}
 use Rattle.mp4edit.specs.declared.stop.Stop.{Stop}
-use Rattle.mp4edit.specs.Names.{OpensAll, OpensFront, Wanted, held_name, names}
+use Rattle.mp4edit.specs.Names.{OpensAll, Wanted, held_name, names}
 use Rattle.mp4edit.specs.Opening.{Finds, FindsFor}
 use Rattle.mp4edit.specs.Reading.{AllTold, CountsMisses, KeepsMisses, KeepsRest, OpensFiles, named, of_fail}
 use Rattle.mp4edit.proofs.Inputs.{answer, opens_all, opens_none}

@@ -3,7 +3,6 @@ use Rattle.std.proofs.Common.{◌≡◌, ℕ, zero, suc, ◌+◌, ◌*◌, ◌-�
 use Rattle.mp_ports.specs.declared.code.Code.{Code}
 use Rattle.mp_ports.specs.declared.fault.Bad.{Bad as Refused}
 use Rattle.mp_ports.specs.declared.fault.Fail.{Fail}
-use Rattle.mp_ports.specs.Checks.{placed}
 use Rattle.mp_ports.specs.Folder.{FolderState, HeldFile, OpenedFile}
 use Rattle.mp_ports.specs.Gives.{refusal}
 use Rattle.mp_pieces.specs.Copied.{sizes_of}
@@ -17,10 +16,11 @@ use Rattle.track_ops.specs.Does.{Adds, Does}
 use Rattle.mp_words.specs.Jobs.{Asked, CommandRecord}
 use Rattle.mp4edit.specs.declared.stop.Stop.{Stop}
 use Rattle.mp4edit.specs.Names.{NeedAll, NeedsAll, names_of, reads}
-use Rattle.mp4edit.specs.Outcome.{Outcome, Absent, Movie, Refusal, add_outcome, and_then, applied, folded, input, no_movie, outcome_of, step}
-use Rattle.mp4edit.specs.Reading.{AllTold, Gives, OpensFiles, of_done, of_fail, told_files}
+use Rattle.mp4edit.specs.Outcome.{Outcome, Movie, add_outcome, and_then, applied, folded, input, no_movie, outcome_of, step}
+use Rattle.mp4edit.specs.Reading.{AllTold, Gives, OpensFiles, of_done, of_fail, of_failed, told_files}
 use Rattle.mp4edit.proofs.FilesInTurn.{opens_as, opens_nothing, opens_on, stops_as, stops_first, stops_on, then_fails}
 use Rattle.mp4edit.proofs.NamesInTurn.{reads-at, reads-next, take_all_commands}
+use Rattle.mp4edit.proofs.Rolls.{RollsTo}
 use Rattle.mp4edit.proofs.ToldFiles.{same_sizes, sizes_more, told_more}
 
 -- so many commands are done: with those that are left the movie comes to what they all come to, and their files were opened
@@ -29,8 +29,9 @@ pub record FoldsTo (commands : List CommandRecord) (done : ℕ) (movie : PlacedM
   pub told : IfSome old.held (λ _. AllTold now)
   pub held : Hold (sizes_of now) movie
   pub folder : OpensFiles {A = Unit} (Ok tt) (reads (take done commands)) (3 * done) (NeedAll commands) old now
+  pub seen : IfSome old.held (λ files. RollsTo files commands done (stands_for (told_files now) movie))
 
-drop_at : (commands : List CommandRecord) (done : ℕ) (command : CommandRecord) → done < length commands → command ≡ get_or commands done command → drop done commands ≡ command ∷ drop (done + 1) commands
+pub drop_at : (commands : List CommandRecord) (done : ℕ) (command : CommandRecord) → done < length commands → command ≡ get_or commands done command → drop done commands ≡ command ∷ drop (done + 1) commands
 drop_at commands done command lt is = rw (add-one done) (by-place commands done lt is)
   where
     by-place : (commands : List CommandRecord) (done : ℕ) → done < length commands → command ≡ get_or commands done command → drop done commands ≡ command ∷ drop (suc done) commands
@@ -84,6 +85,23 @@ done_gives {A} s command made old new done told held does = of_held s.held told
     of_held None told = tt
     of_held (Some files) told = by done (subst (λ (sizes : List ℕ). Hold sizes old) (same_sizes s told) held) does
 
+-- the same of a command that may find no memory
+pub failed_gives : {A : Type 0} (s : FolderState) (command : ℕ) (made : MovieRecord → Result MovieRecord Code) (old new : PlacedMovie) (done : Result A Fail)
+    → IfSome s.held (λ _. AllTold s) → Hold (sizes_of s) old → Does {A = A} refusal made old new done
+    → IfSome s.held (λ files. Gives {A = A} (λ _. new) (of_failed command done) s (applied command (made (stands_for (told_files s) old))))
+failed_gives {A} s command made old new done told held does = of_held s.held told
+  where
+    by : (done : Result A Fail) → Hold (map length (told_files s)) old → Does {A = A} refusal made old new done
+        → Gives {A = A} (λ _. new) (of_failed command done) s (applied command (made (stands_for (told_files s) old)))
+    by (Ok done) hold does = ap (λ r. outcome_of command r) (does.gives (told_files s) hold)
+    by (Err (Fail.Bad bad)) hold does = ap (λ r. outcome_of command r) (does.gives (told_files s) hold)
+    by (Err Fail.NoMemory) hold does = tt
+
+    of_held : (holds : Option (List HeldFile)) → IfSome holds (λ _. AllTold s)
+        → IfSome holds (λ files. Gives {A = A} (λ _. new) (of_failed command done) s (applied command (made (stands_for (told_files s) old))))
+    of_held None told = tt
+    of_held (Some files) told = by done (subst (λ (sizes : List ℕ). Hold sizes old) (same_sizes s told) held) does
+
 -- what was answered to an addition
 abbrev pub answered : {A : Type 0} → ℕ → Result A (Fail × PlacedMovie) → Result A Stop
 answered command (Ok done) = Ok done
@@ -133,6 +151,11 @@ pub done_holds : {A : Type 0} (sizes : List ℕ) (command : ℕ) (made : MovieRe
 done_holds {A} sizes command made old new (Ok done) held does = does.held sizes held
 done_holds {A} sizes command made old new (Err bad) held does = tt
 
+pub failed_holds : {A : Type 0} (sizes : List ℕ) (command : ℕ) (made : MovieRecord → Result MovieRecord Code) (old new : PlacedMovie) (done : Result A Fail)
+    → Hold sizes old → Does {A = A} refusal made old new done → OnOk (of_failed command done) (Hold sizes new)
+failed_holds {A} sizes command made old new (Ok done) held does = does.held sizes held
+failed_holds {A} sizes command made old new (Err fail) held does = tt
+
 -- there is room for the files of a further command
 pub has_room : (commands : List CommandRecord) (done : ℕ) (movie : PlacedMovie) (old now : FolderState) → FoldsTo commands done movie old now → old.opened ≡ [] → done < length commands → length commands < 2 ^ 30
     → length now.opened < 2 ^ 32 - 3
@@ -181,3 +204,8 @@ pub opens_no_file : {A : Type 0} (what : Asked) (needed : Type 0) (command : ℕ
     → OpensFiles {A = A} (of_done command done) (names_of what) 3 needed s s
 opens_no_file {A} what needed command (Ok value) s none = opens_nothing A value (names_of what) 3 needed s none
 opens_no_file {A} what needed command (Err bad) s none = then_fails Unit A tt command (Fail.Bad bad) (names_of what) 3 needed s s (opens_nothing Unit tt (names_of what) 3 needed s none)
+
+pub fails_no_file : {A : Type 0} (what : Asked) (needed : Type 0) (command : ℕ) (done : Result A Fail) (s : FolderState) → ((files : List HeldFile) → names_of what files ≡ [])
+    → OpensFiles {A = A} (of_failed command done) (names_of what) 3 needed s s
+fails_no_file {A} what needed command (Ok value) s none = opens_nothing A value (names_of what) 3 needed s none
+fails_no_file {A} what needed command (Err fail) s none = then_fails Unit A tt command fail (names_of what) 3 needed s s (opens_nothing Unit tt (names_of what) 3 needed s none)

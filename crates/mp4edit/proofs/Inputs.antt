@@ -1,20 +1,19 @@
 -- What is read of an option's file is what its input comes to, where the folder tells.
-use Rattle.std.proofs.Common.{◌≡◌, ◌+◌, ◌<◌, ◌≤◌, ℕ, List, [], ◌∷◌, ◌++◌, Option, Some, None, Result, Ok, Err, length, map, take, is_some, refl, sym, subst, ap, ◌∙◌, arith, option_and_then, get_or, IfSome, IfOk, IsSome, IsSomeAnd, if◌then◌else◌}
+use Rattle.std.proofs.Common.{◌≡◌, ◌≤◌, ℕ, List, [], ◌∷◌, Option, Some, None, Result, Ok, Err, length, take, is_some, refl, sym, subst, ap, ◌∙◌, arith, option_and_then, get_or, IfSome, IsSome, if◌then◌else◌}
 use Rattle.std.proofs.lemmas.List.{append-nil}
 use Rattle.mp_ports.specs.declared.fault.Bad.{Bad}
 use Rattle.mp_ports.specs.declared.fault.ReadFail.{ReadFail}
 use Rattle.mp_ports.specs.Folder.{FolderState, HeldFile, OpenedFile, Opens, bytes_under, held_under, opened_at}
-use Rattle.mp_pieces.specs.Copied.{sizes_of}
 use Rattle.mp_timeline.specs.Movie.{MovieRecord}
 use Rattle.mp_movie.specs.Placed.{PlacedMovie}
-use Rattle.mp_movie.specs.StandsFor.{Hold, Reads}
+use Rattle.mp_movie.specs.StandsFor.{Reads}
 use Rattle.mp_words.specs.declared.name.FileKind.{FileKind}
 use Rattle.mp_words.specs.Names.{kind_of}
 use Rattle.mp4edit.specs.declared.stop.Stop.{Stop}
 use Rattle.mp4edit.specs.Names.{OpensAll, OpensFront, held_name, names}
 use Rattle.mp4edit.specs.Outcome.{Absent, Outcome, file_input, input_outcome, outcome_of, read_as}
 use Rattle.mp4edit.specs.Opening.{FindsFor}
-use Rattle.mp4edit.specs.Reading.{AllTold, Gives, GivesNone, of_read, told_files}
+use Rattle.mp4edit.specs.Reading.{Gives, GivesNone, of_read, told_files}
 use Rattle.mp4edit.proofs.ToldFiles.{bytes_at, is_open, opened_last}
 
 -- what was read, for the option of that number

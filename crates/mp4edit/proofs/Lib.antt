@@ -3,6 +3,7 @@ pub mod Sounds
 pub mod Suffixes
 pub mod Inputs
 pub mod NamesInTurn
+pub mod Rolls
 pub mod FilesInTurn
 pub mod Pairs
 pub mod Folds

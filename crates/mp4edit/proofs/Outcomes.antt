@@ -1,10 +1,9 @@
 -- What an edit comes to once its commands are applied: a movie that is planned and written, or the refusal of the plan.
-use Rattle.std.proofs.Common.{◌≡◌, ◌==◌, ◌+◌, ◌<◌, ℕ, true, false, nat_eq, List, [], ◌∷◌, length, map, Option, Some, None, option_map, IfSome, IfOk, IsSomeAnd, Result, Ok, Err, refl, sym, subst, ap, ◌∙◌, sum_by}
+use Rattle.std.proofs.Common.{◌≡◌, ◌==◌, ℕ, false, List, [], ◌∷◌, length, map, Option, Some, None, option_map, IfSome, IsSomeAnd, Result, Ok, Err, refl, sym, subst, ap, ◌∙◌}
 use Rattle.std.proofs.lemmas.List.{length-map}
 use Rattle.std.proofs.lemmas.List.FromFn.{length-map-range_with_len}
 use Rattle.std.proofs.lemmas.List.Sums.{sum_by-cons}
 use Rattle.mp_ports.specs.declared.code.Code.TheVariants.{EmptyMovie}
-use Rattle.mp_ports.specs.declared.fault.Bad.{Bad}
 use Rattle.mp_ports.specs.declared.fault.Fail.{Fail}
 use Rattle.mp_ports.specs.Checks.{bad_at}
 use Rattle.mp_ports.specs.Folder.{FolderState, HeldFile}
@@ -19,8 +18,8 @@ use Rattle.mp_layout.specs.Plan.{FilePlanRecord, IsFileOf, IsPlanOf, Plans}
 use Rattle.mp_words.specs.Jobs.{CommandRecord}
 use Rattle.mp4edit.specs.declared.stop.Stop.{Stop}
 use Rattle.mp4edit.specs.Line.{line, sample_count, wrote}
-use Rattle.mp4edit.specs.Outcome.{Outcome, Absent, Movie, Refusal, and_then, folded, no_movie, outcome, output_fault, written}
-use Rattle.mp4edit.specs.Reading.{AllTold, Gives, of_fail, named, told_files}
+use Rattle.mp4edit.specs.Outcome.{Outcome, Absent, Movie, Refusal, and_then, folded, no_movie, outcome, written}
+use Rattle.mp4edit.specs.Reading.{AllTold, Gives, of_fail, told_files}
 use Rattle.mp4edit.specs.Run.{HasWritten, HasWrittenFront, edit_of}
 use Rattle.mp4edit.specs.Written.{LeavesFront, OutputRecord, PlansOutput, WritesWhole}
 use Rattle.mp4edit.proofs.ToldFiles.{held_is_told, same_sizes}

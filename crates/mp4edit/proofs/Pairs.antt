@@ -1,9 +1,9 @@
 -- The files of an NHNT pair: opened they are what their names say, and the movie that is read of them is what the pair comes to.
-use Rattle.std.proofs.Common.{◌≡◌, ◌<◌, ◌++◌, true, false, true≢false, ℕ, List, [], ◌∷◌, codes, length, unwrap_or, Option, Some, None, Result, Ok, Err, IfOk, IfSome, IsSome, IsSomeAnd, get_or, option_and_then, refl, sym, subst, ap, ◌∙◌, arith}
+use Rattle.std.proofs.Common.{◌≡◌, ◌<◌, ◌++◌, true, false, true≢false, ℕ, List, [], codes, length, unwrap_or, Option, Some, None, Result, Ok, Err, IfSome, IsSome, IsSomeAnd, get_or, option_and_then, refl, sym, subst, ap, ◌∙◌, arith}
 use Rattle.std.proofs.lemmas.List.{append_assoc, append-nil, get_or_append_left, length-append}
 use Rattle.std.proofs.lemmas.List.Elements.{All-weaker, recursion_from_All}
 use Rattle.mp_ports.specs.declared.fault.ReadFail.{ReadFail}
-use Rattle.mp_ports.specs.Folder.{FolderState, HeldFile, OpenedFile, Opens, bytes_under, held_under, opened_at}
+use Rattle.mp_ports.specs.Folder.{FolderState, HeldFile, OpenedFile, Opens, bytes_under, opened_at}
 use Rattle.mp_movie.specs.Placed.{PlacedMovie}
 use Rattle.mp_movie.specs.StandsFor.{Reads}
 use Rattle.mp_read.specs.Read.{IsStretch, LiesIn}
@@ -14,10 +14,10 @@ use Rattle.nhnt_import.specs.Placed.{IsImported, IsUnitPiece, pieces_of, placed_
 use Rattle.mp4edit.specs.declared.pair.Pair.{Pair}
 use Rattle.mp4edit.specs.declared.stop.Stop.{Stop}
 use Rattle.mp4edit.specs.Opening.{Finds, FindsFor}
-use Rattle.mp4edit.specs.Outcome.{Absent, Outcome, file_input, input_as, outcome_of, pair_input, pair_outcome}
+use Rattle.mp4edit.specs.Outcome.{Absent, Outcome, file_input, input_as, pair_input, pair_outcome}
 use Rattle.mp4edit.specs.Pair.{IsNamed, IsNamedIfAny, IsPair}
 use Rattle.mp4edit.specs.Names.{Wanted, held_name, held_names, is_nhnt}
-use Rattle.mp4edit.specs.Reading.{Gives, GivesNone, OpensFiles, told_files}
+use Rattle.mp4edit.specs.Reading.{Gives, GivesNone, OpensFiles}
 use Rattle.mp4edit.proofs.FilesInTurn.{files_as, find_stops, found_opens, missed_opens, needed_stops, opens_as, opens_on, stops_as, stops_first, stops_on, wants_memory}
 use Rattle.mp4edit.proofs.Inputs.{answer, answer_gives}
 use Rattle.mp4edit.proofs.ToldFiles.{bytes_at, is_open, no_file, opened_last}

@@ -1,12 +1,12 @@
 -- A name that ends in the suffix of an NHNT table can be cut in front of it.
-use Rattle.std.proofs.Common.{◌≡◌, ◌<◌, ◌≤◌, ◌-◌, ◌+◌, ℕ, Bool, true, false, true≢false, ◌&&◌, ◌||◌, List, [], ◌∷◌, length, drop, codes, bytes_eq, nat_eq, slice_index, Option, Some, None, refl, sym, ap, subst, ◌∙◌, arith, tests}
+use Rattle.std.proofs.Common.{◌≡◌, ◌<◌, ◌-◌, ◌+◌, ℕ, Bool, true, false, true≢false, ◌&&◌, ◌||◌, List, [], ◌∷◌, length, drop, codes, nat_eq, slice_index, refl, sym, ap, ◌∙◌, arith, tests}
 use Rattle.std.specs.Bool.{then_some}
 use Rattle.std.specs.Str.{IsCharBoundary, str_eq_ignore_ascii_case}
 use Rattle.std.specs.Char.{to_ascii_lowercase}
 use Rattle.std.proofs.lemmas.List.{get_or-drop}
 use Rattle.mp_ports.specs.Checks.{first_some}
 use Rattle.mp_words.specs.declared.name.FileKind.{FileKind}
-use Rattle.mp_words.specs.Names.{ends_in, ends_with, kind_of}
+use Rattle.mp_words.specs.Names.{ends_with, kind_of}
 use Rattle.mp4edit.specs.Names.{is_nhnt}
 
 last_kind : (a b c d : Bool) → is_nhnt (first_some (then_some a FileKind.Mp4 ∷ then_some b FileKind.Avc ∷ then_some c FileKind.Adts ∷ then_some d FileKind.Nhnt ∷ [])) ≡ true → d ≡ true

@@ -1,5 +1,5 @@
 -- Where each opened file is told, so is each piece that they hold; and a file that is opened later changes nothing.
-use Rattle.std.proofs.Common.{◌≡◌, ◌+◌, ◌<◌, ◌≤◌, ℕ, List, [], ◌∷◌, ◌++◌, All, Option, Some, None, length, map, get_or, refl, sym, subst, ap, ◌∙◌, arith, unwrap_or, option_and_then, IfSome, IsSome, IsSomeAnd}
+use Rattle.std.proofs.Common.{◌≡◌, ◌<◌, ℕ, List, [], ◌∷◌, ◌++◌, All, Option, Some, None, length, map, get_or, refl, sym, subst, ap, ◌∙◌, arith, unwrap_or, option_and_then, IfSome, IsSome, IsSomeAnd}
 use Rattle.std.specs.List.{AllByRecursion, flat_map}
 use Rattle.std.proofs.lemmas.List.{get_or_push, get_or-map, length_push, length-map, map-append}
 use Rattle.std.proofs.lemmas.List.Concat.{flat_map-cons}

@@ -1,5 +1,5 @@
 -- What stands of a file behind its creation, the copying of its bytes and its end.
-use Rattle.std.proofs.Common.{◌≡◌, ℕ, true, false, List, [], ◌++◌, length, map, take, Option, Some, None, option_map, IfSome, IfNone, IsSomeAnd, refl, sym, subst, ap, ◌∙◌, arith}
+use Rattle.std.proofs.Common.{◌≡◌, ℕ, true, false, List, [], length, Option, Some, None, option_map, IfSome, IfNone, IsSomeAnd, refl, sym, subst, ap, ◌∙◌, arith}
 use Rattle.std.proofs.lemmas.List.{take_all}
 use Rattle.mp_ports.specs.Count.{after_fault}
 use Rattle.mp_ports.specs.Folder.{FolderState, IsWriting, Output, Creates, FailsToWrite, Finishes}

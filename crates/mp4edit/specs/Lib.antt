@@ -1,5 +1,6 @@
 pub mod Words
 pub mod Outcome
+pub mod Roll
 pub mod Names
 pub mod Line
 pub mod Written

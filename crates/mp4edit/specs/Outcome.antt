@@ -13,11 +13,13 @@ use Rattle.adts_import.specs.Stream.{stream_movie}
 use Rattle.nhnt_import.specs.Pair.{pair_movie}
 use Rattle.track_ops.specs.declared.chosen.Choice.{Choice}
 use Rattle.track_ops.specs.Adding.{add}
+use Rattle.track_ops.specs.Delay.{delay}
+use Rattle.track_ops.specs.SetScales.{set_movie_scale, set_track_scale}
 use Rattle.track_ops.specs.Tracks.{remove, set_enabled, set_language}
 use Rattle.mp_layout.specs.File.{moov_fault}
 use Rattle.mp_words.specs.declared.name.FileKind.{FileKind}
 use Rattle.mp_words.specs.declared.name.FileKind.TheVariants.{Adts, Nhnt}
-use Rattle.mp_words.specs.Jobs.{Asked, Adds, Removes, SetsLanguage, Enables, CommandRecord, EditRecord}
+use Rattle.mp_words.specs.Jobs.{Asked, Adds, Removes, Delays, ScalesTrack, ScalesMovie, SetsLanguage, Enables, CommandRecord, EditRecord}
 use Rattle.mp_words.specs.Names.{beside, kind_of}
 
 -- a movie to be written, a refusal, or an option whose file is missing
@@ -83,6 +85,9 @@ add_outcome files command name choice movie = and_then (input files command name
 abbrev pub step : List HeldFile → ℕ → Asked → MovieRecord → Outcome
 step files command (Adds name choice rate) movie = add_outcome files command name choice movie
 step files command (Removes number) movie = applied command (remove number movie)
+step files command (Delays number ms) movie = applied command (delay number ms movie)
+step files command (ScalesTrack number scale) movie = applied command (set_track_scale number scale movie)
+step files command (ScalesMovie scale) movie = applied command (set_movie_scale scale movie)
 step files command (SetsLanguage number letters) movie = applied command (set_language number letters movie)
 step files command (Enables number on) movie = applied command (set_enabled number on movie)
 step files command _ movie = Movie movie

@@ -1,18 +1,24 @@
 -- What the calls of a run answer, step by step.
-use Rattle.std.specs.Prelude.{◌≡◌, ◌⊎◌, ℕ, List, [], All, length, map, unwrap_or, IfSome, IsSomeAnd, OnOk, Result, Ok, Err}
+use Rattle.std.specs.Prelude.{◌≡◌, ◌<◌, ◌⊎◌, ℕ, List, [], All, length, map, unwrap_or, IfSome, IsSomeAnd, OnOk, Result, Ok, Err}
 use Rattle.mp_ports.specs.declared.fault.Bad.{Bad as Refused}
 use Rattle.mp_ports.specs.declared.fault.Fail.{Fail}
 use Rattle.mp_ports.specs.declared.fault.Fail.TheVariants.{Bad as FailBad, NoMemory as FailNoMemory}
 use Rattle.mp_ports.specs.declared.fault.ReadFail.{ReadFail}
 use Rattle.mp_ports.specs.declared.fault.ReadFail.TheVariants.{Bad as ReadBad, ReadFault as ReadFails, NoMemory as ReadNoMemory}
 use Rattle.mp_ports.specs.Count.{Rose, after_fault}
-use Rattle.mp_ports.specs.Folder.{FolderState, OpenedFile}
+use Rattle.mp_ports.specs.Folder.{FolderState, HeldFile, OpenedFile}
+use Rattle.mp_timeline.specs.Movie.{MovieRecord}
+use Rattle.mp_timeline.specs.Same.{HasScales}
+use Rattle.mp_movie.specs.WellFormed.{AreDistinct}
 use Rattle.mp_movie.specs.Placed.{PlacedMovie}
 use Rattle.mp_movie.specs.StandsFor.{stands_for}
+use Rattle.track_ops.specs.Numbers.{numbers_of}
+use Rattle.track_ops.specs.SeenLaw.{ShowDelayed}
+use Rattle.mp_words.specs.Jobs.{Asked, Adds, Removes, Delays, ScalesTrack, ScalesMovie, SetsLanguage, Enables}
 use Rattle.mp4edit.specs.declared.stop.Stop.{Stop}
 use Rattle.mp4edit.specs.declared.stop.Stop.TheVariants.{Missing, Bad, ReadFault, NoMemory}
 use Rattle.mp4edit.specs.Names.{OpensAll, OpensFront, Wanted}
-use Rattle.mp4edit.specs.Outcome.{Outcome, Movie, Refusal, Absent}
+use Rattle.mp4edit.specs.Outcome.{Outcome, Movie, Refusal, Absent, input}
 
 -- the bytes of the opened files, each at its number; none of a file that isn't told
 abbrev pub told_files : FolderState → List (List ℕ)
@@ -74,3 +80,25 @@ of_fail command FailNoMemory = NoMemory
 abbrev pub of_done : {A : Type 0} → ℕ → Result A Refused → Result A Stop
 of_done command (Ok done) = Ok done
 of_done command (Err bad) = Err (Bad (named command bad))
+
+-- where it is a movie, each scale is at least one tick a second
+abbrev pub HasMovieScales : Outcome → Type 0
+HasMovieScales (Movie movie) = HasScales movie
+HasMovieScales _ = Unit
+
+-- what is known of an option that was carried out, beside what it made of the movie: the file that it adds has scales, a delay shows
+-- each track later or as before, and a scale that is set has ticks, of tracks with numbers of their own. It is none that isn't built
+abbrev pub IsCarriedOut : List HeldFile → ℕ → Asked → (movie made : MovieRecord) → Type 0
+IsCarriedOut files command (Adds name choice rate) movie made = HasMovieScales (input files command name)
+IsCarriedOut files command (Removes number) movie made = Unit
+IsCarriedOut files command (Delays number ms) movie made = ShowDelayed number ms movie made
+IsCarriedOut files command (ScalesTrack number scale) movie made = (0 < scale) × AreDistinct (numbers_of movie.tracks)
+IsCarriedOut files command (ScalesMovie scale) movie made = 0 < scale
+IsCarriedOut files command (SetsLanguage number letters) movie made = Unit
+IsCarriedOut files command (Enables number on) movie made = Unit
+IsCarriedOut files command _ movie made = ⊥
+
+-- what was done for the option of that number, or why not
+abbrev pub of_failed : {A : Type 0} → ℕ → Result A Fail → Result A Stop
+of_failed command (Ok done) = Ok done
+of_failed command (Err fail) = Err (of_fail command fail)

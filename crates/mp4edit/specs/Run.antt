@@ -13,6 +13,7 @@ use Rattle.mp_words.specs.Line.{WordFault}
 use Rattle.mp_words.specs.Jobs.{CommandRecord, EditRecord, JobRecord, Edits}
 use Rattle.mp4edit.specs.Outcome.{Outcome, Movie, Refusal, Absent, IsMovieAnd, dump_outcome, outcome}
 use Rattle.mp4edit.specs.Line.{line, text_of}
+use Rattle.mp4edit.specs.Roll.{IsSeen, roll}
 use Rattle.mp4edit.specs.Written.{IsToldFront, OutputRecord}
 use Rattle.mp4edit.specs.Names.{NeedAll, OpensAll, OpensFront, Wanted, held_name, reads}
 use Rattle.mp4edit.specs.Reading.{KeepsMisses}
@@ -121,13 +122,14 @@ pub record OpensInputs (ending : Ending) (wanted : Wanted) (most : ℕ) (old new
 abbrev pub edit_of : List CommandRecord → OutputRecord → EditRecord
 edit_of commands output = record { commands = commands; out = output.name; out_command = output.command; window = output.window }
 
--- what a job that writes a file opens, creates and says, by its outcome where the folder tells
+-- what a job that writes a file opens, creates and says, by its outcome where the folder tells; and what its file shows at each moment
 pub record EndsEdit (ending : Ending) (edit : EditRecord) (old new : FolderState) (before after : ReportState) : Type 0 where
   pub inputs : OpensInputs ending (reads edit.commands) (3 * length edit.commands) old new
   pub left : Leaves ending edit.out old new
   pub told : IfSome old.held (λ files. Tells ending (outcome edit files) edit.window old new)
   pub said : IfSome old.held (λ files. SaysText ending (outcome edit files) (λ movie. line edit.out movie edit.window) before after)
   pub complete : IfSome old.held (λ files. Completes ending (outcome edit files) old new before after)
+  pub seen : IfSome old.held (λ files. IsSeen ending (roll files edit.commands) old new)
 
 -- a refusal, or a file that is missing, is the outcome
 abbrev pub TellsFault : Ending → Outcome → Type 0

@@ -1,15 +1,18 @@
 // A job that makes a movie of its options, and writes it.
 ghost use Rattle.std.specs.Prelude.{◌≡◌, ◌*◌, ◌<◌, ◌^◌, [], None, All, length, IfSome, IfOk};
 ghost use Rattle.mp_pieces.specs.Copied.{sizes_of};
-ghost use Rattle.mp_movie.specs.StandsFor.{Hold};
+ghost use Rattle.mp_movie.specs.StandsFor.{Hold, stands_for};
 ghost use Rattle.mp_layout.specs.Plan.{IsPlanOf};
+ghost use Rattle.track_ops.specs.Moments.{AreSeenAs};
 ghost use Rattle.mp_words.specs.Jobs.{IsAsked};
+ghost use Rattle.mp_movie.specs.Placed.{sample_count};
 ghost use Rattle.mp4edit.specs.Outcome.{outcome};
-ghost use Rattle.mp4edit.specs.Line.{line};
+ghost use Rattle.mp4edit.specs.Line.{wrote};
 ghost use Rattle.mp4edit.specs.Names.{NeedAll, reads};
-ghost use Rattle.mp4edit.specs.Reading.{AllTold, Gives, OpensFiles};
+ghost use Rattle.mp4edit.specs.Reading.{AllTold, Gives, OpensFiles, told_files};
+ghost use Rattle.mp4edit.specs.Roll.{roll};
 ghost use Rattle.mp4edit.specs.Written.{PlansOutput};
-ghost use Rattle.mp4edit.specs.Run.{HasCauses, RaisesMisses, IsOfJob, OpensInputs, Leaves, SaysNothing, Tells, SaysText, Completes, edit_of};
+ghost use Rattle.mp4edit.specs.Run.{EndsEdit, HasCauses, RaisesMisses, IsOfJob, SaysNothing, edit_of};
 
 use crate::ending::Ending;
 use crate::line::wrote_line;
@@ -61,34 +64,15 @@ pub fn write_movie<F: Folder, R: Report>(
         (R.state report.old) (R.state report.new) }
     ensures misses { RaisesMisses (NeedAll commands.now) result (F.state folder.old) (F.state folder.new) }
     ensures job { IsOfJob result }
-    ensures inputs { OpensInputs result (reads commands.now) (3 * length commands.now)
-        (F.state folder.old) (F.state folder.new) }
-    ensures left { Leaves result output.name (F.state folder.old) (F.state folder.new) }
     ensures quiet { SaysNothing result (R.state report.old) (R.state report.new) }
-    ensures told { IfSome (F.state folder.old).held (λ files.
-        Tells result (outcome (edit_of commands.now output) files) output.window
-        (F.state folder.old) (F.state folder.new)) }
-    ensures said { IfSome (F.state folder.old).held (λ files.
-        SaysText result (outcome (edit_of commands.now output) files) (λ movie. line output.name movie output.window)
-        (R.state report.old) (R.state report.new)) }
-    ensures complete { IfSome (F.state folder.old).held (λ files.
-        Completes result (outcome (edit_of commands.now output) files) (F.state folder.old) (F.state folder.new)
-        (R.state report.old) (R.state report.new)) }
+    ensures ends { EndsEdit result (edit_of commands.now output) (F.state folder.old) (F.state folder.new)
+        (R.state report.old) (R.state report.new) }
 {
     let (movie, plan) = match plan_movie(alloc, folder, commands, &output) {
         Ok(planned) => planned,
         Err(stop) => return stop.ending(),
     };
-    let Ok(line) = wrote_line(
-        alloc,
-        &output.name,
-        movie.tracks().len(),
-        movie.samples(),
-        plan.length,
-    ) else {
-        return Ending::NoMemory;
-    };
-    let Ok(mut window) = new_window(alloc) else {
+    let Ok((line, mut window)) = line_and_window(alloc, &output.name, &movie, &plan) else {
         return Ending::NoMemory;
     };
     match write_file(folder, output.name, &plan, &movie, &mut window) {
@@ -114,6 +98,8 @@ fn plan_movie<F: Folder>(
     requires asked { All (λ command. IsAsked command.what) commands.now }
     ensures movie { IfSome (F.state folder.old).held (λ files.
         Gives (λ planned. planned.0) result (F.state folder.new) (outcome (edit_of commands.now output.now) files)) }
+    ensures seen { IfSome (F.state folder.old).held (λ files. IfOk result (λ planned.
+        AreSeenAs (stands_for (told_files (F.state folder.new)) planned.0) (roll files commands.now))) }
     ensures told { IfSome (F.state folder.old).held (λ _. AllTold (F.state folder.new)) }
     ensures held { IfOk result (λ planned. Hold (sizes_of (F.state folder.new)) planned.0) }
     ensures plan { IfOk result (λ planned. IsPlanOf planned.1 planned.0 output.now.window) }
@@ -139,6 +125,27 @@ fn plan_output(alloc: Global, movie: &Movie, output: &Output) -> Result<FilePlan
     }
     let plan = chunk_plan(alloc, movie, output.window)?;
     plan_file(alloc, movie, plan)
+}
+
+/// What is said of the file at the end, and the window through which the samples' bytes are copied.
+fn line_and_window(
+    alloc: Global,
+    name: &str,
+    movie: &Movie,
+    plan: &FilePlan,
+) -> Result<(Vec<u8>, Vec<u8>), AllocError>
+    ensures line { IfOk result (λ taken. taken.0.items
+        ≡ wrote name.now (length movie.now.tracks) (sample_count movie.now.tracks) plan.now.length) }
+    ensures window { IfOk result (λ taken. 0 < length taken.1.items) }
+{
+    let line = wrote_line(
+        alloc,
+        name,
+        movie.tracks().len(),
+        movie.samples(),
+        plan.length,
+    )?;
+    Ok((line, new_window(alloc)?))
 }
 
 /// The window through which the samples' bytes are copied.

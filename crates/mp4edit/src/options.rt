@@ -2,19 +2,24 @@
 ghost use Rattle.std.specs.Prelude.{◌≡◌, ◌*◌, ◌-◌, ◌<◌, ◌^◌, [], false, length, Some, All, IfOk, IfSome, OnOk};
 ghost use Rattle.mp_movie.specs.StandsFor.{Hold, stands_for};
 ghost use Rattle.mp_pieces.specs.Copied.{sizes_of};
+ghost use Rattle.track_ops.specs.Moments.{AreSeenAs};
 ghost use Rattle.mp_words.specs.Jobs.{IsAsked, asked};
 ghost use Rattle.mp_words.specs.Names.{kind_of};
 ghost use Rattle.mp4edit.specs.Names.{NeedAll, NeedsAll, input_names, is_nhnt, names_of, reads};
-ghost use Rattle.mp4edit.specs.Outcome.{add_outcome, folded, no_movie, step};
-ghost use Rattle.mp4edit.specs.Reading.{AllTold, Gives, OpensFiles, of_done, told_files};
+ghost use Rattle.mp4edit.specs.Outcome.{add_outcome, folded, input, no_movie, step};
+ghost use Rattle.mp4edit.specs.Reading.{AllTold, Gives, HasMovieScales, IsCarriedOut, OpensFiles, of_done, of_failed, told_files};
+ghost use Rattle.mp4edit.specs.Roll.{roll};
 
 use crate::input::read_input;
 use crate::stop::{Stop, of_fail};
-use mp_movie::{Movie, files_may_follow};
+use mp_movie::{Movie, files_may_follow, parts_stand_for_movies, same_movie_is_presented};
 use mp_ports::{Bad, Fail, Folder};
 use mp_words::{Command, What};
 use std::alloc::Global;
-use track_ops::{Choice, add_tracks, remove, set_enabled, set_language};
+use track_ops::{
+    Choice, add_tracks, commands_are_seen, delay, remove, set_enabled, set_language,
+    set_movie_scale, set_track_scale,
+};
 
 /// The movie that the commands make, one after another, of no movie.
 pub fn fold<F: Folder>(alloc: Global, folder: &mut F, commands: &[Command]) -> Result<Movie, Stop>
@@ -23,11 +28,14 @@ pub fn fold<F: Folder>(alloc: Global, folder: &mut F, commands: &[Command]) -> R
     requires asked { All (λ command. IsAsked command.what) commands.now }
     ensures movie { IfSome (F.state folder.old).held (λ files.
         Gives (λ movie. movie) result (F.state folder.new) (folded files commands.now no_movie)) }
+    ensures seen { IfSome (F.state folder.old).held (λ files. IfOk result (λ movie.
+        AreSeenAs (stands_for (told_files (F.state folder.new)) movie) (roll files commands.now))) }
     ensures told { IfSome (F.state folder.old).held (λ _. AllTold (F.state folder.new)) }
     ensures held { IfOk result (Hold (sizes_of (F.state folder.new))) }
     ensures folder { OpensFiles result (reads commands.now) (3 * length commands.now) (NeedAll commands.now)
         (F.state folder.old) (F.state folder.new) }
 {
+    commands_are_seen();
     let mut movie = Movie::new(alloc);
     for command in commands {
         if let Err(stop) = take_step(alloc, folder, &mut movie, command) {
@@ -50,22 +58,29 @@ fn take_step<F: Folder>(
     requires held { Hold (sizes_of (F.state folder.old)) movie.old }
     ensures movie { IfSome (F.state folder.old).held (λ files. Gives (λ _. movie.new) result (F.state folder.new)
         (step files command.now.place command.now.what (stands_for (told_files (F.state folder.old)) movie.old))) }
+    ensures done { IfSome (F.state folder.old).held (λ files.
+        OnOk result (IsCarriedOut files command.now.place command.now.what
+        (stands_for (told_files (F.state folder.old)) movie.old)
+        (stands_for (told_files (F.state folder.new)) movie.new))) }
     ensures held { OnOk result (Hold (sizes_of (F.state folder.new)) movie.new) }
     ensures folder { OpensFiles result (names_of command.now.what) 3 (NeedsAll command.now.what)
         (F.state folder.old) (F.state folder.new) }
 {
+    parts_stand_for_movies();
+    let _tracks = movie.tracks();
     let place = command.place;
     match &command.what {
         What::Add { name, choice, .. } => add_input(alloc, folder, movie, name, *choice, place),
         What::Rem { number } => of_done(remove(movie, *number), place),
+        What::Delay { number, ms } => of_failed(delay(alloc, movie, *number, *ms), place),
+        What::TrackScale { number, scale } => {
+            of_done(set_track_scale(movie, *number, *scale), place)
+        }
+        What::MovieScale { scale } => of_done(set_movie_scale(movie, *scale), place),
         What::Lang { number, letters } => of_done(set_language(movie, *number, *letters), place),
         What::Enabled { number, on } => of_done(set_enabled(movie, *number, *on), place),
         // No job that is built has another one.
-        What::Cat { .. }
-        | What::Delay { .. }
-        | What::Cut { .. }
-        | What::TrackScale { .. }
-        | What::MovieScale { .. } => Ok(()),
+        What::Cat { .. } | What::Cut { .. } => Err(Stop::NoMemory),
     }
 }
 
@@ -83,15 +98,20 @@ fn add_input<F: Folder>(
     requires held { Hold (sizes_of (F.state folder.old)) movie.old }
     ensures movie { IfSome (F.state folder.old).held (λ files. Gives (λ _. movie.new) result (F.state folder.new)
         (add_outcome files command name.now choice (stands_for (told_files (F.state folder.old)) movie.old))) }
+    ensures scales { IfSome (F.state folder.old).held (λ files.
+        OnOk result (HasMovieScales (input files command name.now))) }
     ensures held { OnOk result (Hold (sizes_of (F.state folder.new)) movie.new) }
     ensures folder { OpensFiles result (input_names name.now) 3 (is_nhnt (kind_of name.now) ≡ false)
         (F.state folder.old) (F.state folder.new) }
 {
     files_may_follow();
+    parts_stand_for_movies();
+    same_movie_is_presented();
     let other = match read_input(alloc, folder, name, command) {
         Ok(other) => other,
         Err(stop) => return Err(stop),
     };
+    let _tracks = other.tracks();
     match add_tracks(alloc, movie, other, choice) {
         Ok(()) => {}
         Err((fail, _)) => return Err(of_fail(fail, command)),
@@ -106,5 +126,15 @@ fn of_done(done: Result<(), Bad>, command: u32) -> Result<(), Stop>
     match done {
         Ok(()) => Ok(()),
         Err(bad) => Err(of_fail(Fail::Bad(bad), command)),
+    }
+}
+
+/// What was done for the option of that number, or why not.
+fn of_failed(done: Result<(), Fail>, command: u32) -> Result<(), Stop>
+    ensures { result ≡ of_failed command done }
+{
+    match done {
+        Ok(()) => Ok(()),
+        Err(fail) => Err(of_fail(fail, command)),
     }
 }

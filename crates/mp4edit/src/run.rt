@@ -33,7 +33,8 @@ pub fn mp4edit<F: Folder, R: Report>(
     ensures quiet { SaysNothing result (R.state report.old) (R.state report.new) }
 
     // A job that writes a file: what it opens and creates, and, where the folder tells what it holds, how what the
-    // options come to decides what is written and said: at `Done` the whole file, which presents the movie.
+    // options come to decides what is written and said: at `Done` the whole file, which presents the movie. What the
+    // options say of its tracks decides what a viewer gets of it at each moment.
     ensures edit { IfEdits (job (map string_bytes words.now)) (λ edit.
         EndsEdit result edit (F.state folder.old) (F.state folder.new) (R.state report.old) (R.state report.new)) }
     // A job that tells of a file: it creates nothing, and at `Done` says the text of the movie that the file presents.
@@ -48,17 +49,14 @@ pub fn mp4edit<F: Folder, R: Report>(
                 out_command,
                 window,
             },
-        ) => write_movie(
-            alloc,
-            &commands,
-            Output {
+        ) => {
+            let output = Output {
                 name: out,
                 command: out_command,
                 window,
-            },
-            folder,
-            report,
-        ),
+            };
+            write_movie(alloc, &commands, output, folder, report)
+        }
         Ok(Job::Dump { kind, name }) => tell_file(alloc, kind, &name, folder, report),
         // No job that is built generates files.
         Ok(Job::Gen { .. }) => Ending::NoMemory,

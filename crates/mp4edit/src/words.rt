@@ -77,7 +77,12 @@ fn is_built(command: &Command) -> bool
             kind_of(name),
             Some(FileKind::Mp4 | FileKind::Adts | FileKind::Nhnt)
         ),
-        What::Rem { .. } | What::Lang { .. } | What::Enabled { .. } => true,
+        What::Rem { .. }
+        | What::Delay { .. }
+        | What::TrackScale { .. }
+        | What::MovieScale { .. }
+        | What::Lang { .. }
+        | What::Enabled { .. } => true,
         _ => false,
     }
 }

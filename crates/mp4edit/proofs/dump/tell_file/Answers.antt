@@ -1,4 +1,4 @@
-use Rattle.std.proofs.Common.{rules, ◌≡◌, ℕ, List, inl, refl, subst}
+use Rattle.std.proofs.Common.{rules, ℕ, List, inl, refl, subst}
 use Rattle.mp_ports.specs.Report.{FailsToSay, Says}
 use Rattle.mp4edit.specs.declared.ending.Ending.{Ending}
 use Rattle.mp4edit.specs.Line.{text_of}

@@ -1,12 +1,13 @@
 use Rattle.std.proofs.Common.{arith, rules, ◌≡◌, false, IfSome, Ok, Err, refl}
 use Rattle.mp_movie.specs.StandsFor.{stands_for}
-use Rattle.mp4edit.specs.Outcome.{add_outcome}
+use Rattle.mp4edit.specs.Outcome.{add_outcome, input}
 use Rattle.mp4edit.specs.Reading.{Gives, told_files}
 use Rattle.mp_movie.specs.Placed.{PlacedMovie}
 use Rattle.mp_words.specs.Names.{kind_of}
 use Rattle.mp4edit.specs.Names.{input_names, is_nhnt}
 use Rattle.mp4edit.proofs.FilesInTurn.{opens_as, stops_as, then_fails, told_next}
 use Rattle.mp4edit.proofs.Folds.{added_gives, answered, held_still}
+use Rattle.mp4edit.proofs.Rolls.{input_scales}
 use Rattle.mp4edit.proofs.options.add_input.Goals as goal
 
 pub returns-clause-movie : goal.returns-clause-movie
@@ -18,6 +19,12 @@ returns-clause-movie g c =
     added_gives c.files_may_follow.ensures s t all.files c.args.name.now c.args.command c.args.choice c.in-Ok.other c.args.movie.now c.add_tracks.new.movie (Ok c.in-Ok-add_tracks.field-0)
     all.opened c.requires.told (told_next s.held s t refl c.requires.told c.in-Ok.ensures.folder.told) c.requires.held c.in-Ok.ensures.held c.in-Ok.ensures.movie c.in-Ok-add_tracks.ensures.added in
     search (rules, gives)
+
+pub returns-clause-scales : goal.returns-clause-scales
+returns-clause-scales g c =
+    let s = g.F.Folder.state c.args.folder.now in
+    let t = g.F.Folder.state c.read_input.new.folder in
+    input_scales c.parts_stand_for_movies.ensures c.same_movie_is_presented.ensures.scales s.held (λ files. input files c.args.command c.args.name.now) t c.in-Ok.other c.tracks-tracks.ensures.whole c.in-Ok.ensures.movie
 
 pub returns-clause-held : goal.returns-clause-held
 returns-clause-held g c =

@@ -6,7 +6,8 @@ use Rattle.mp4edit.specs.Names.{NeedAll, reads}
 use Rattle.mp4edit.specs.Outcome.{step}
 use Rattle.mp4edit.specs.Reading.{Gives, told_files}
 use Rattle.mp4edit.proofs.FilesInTurn.{opens_nothing, told_next}
-use Rattle.mp4edit.proofs.Folds.{all_done, goes_on, goes_on_here, has_room, stops, stops_here}
+use Rattle.mp4edit.proofs.Folds.{all_done, drop_at, goes_on, goes_on_here, has_room, stops, stops_here}
+use Rattle.mp4edit.proofs.Rolls.{rolls_all, rolls_on}
 use Rattle.mp4edit.proofs.options.fold.Goals as goal
 
 pub take_step-requires-clause-opened : goal.take_step-requires-clause-opened
@@ -26,6 +27,7 @@ loop-command-init g c =
       told = search rules;
       held = search rules;
       folder = opens_nothing Unit tt (reads (take 0 commands)) (3 * 0) (NeedAll commands) (g.F.Folder.state c.args.folder.now) (λ files. refl);
+      seen = search rules;
     }
 
 pub returns-in-Err-clause-movie : goal.returns-in-Err-clause-movie
@@ -62,7 +64,13 @@ loop-command-preserved g c =
       told = told_next old.held s t (ap (λ (x : FolderState). x.held) c.loop-command.invariant.folder.rest) c.loop-command.invariant.told c.in_default.ensures.folder.told;
       held = search rules;
       folder = goes_on_here Unit c.in_default.field-0 c.args.commands.now c.loop-command.command-index c.command-item.result old s t c.loop-command-test.true c.command-item.is c.loop-command.invariant.folder c.in_default.ensures.folder;
+      seen = rolls_on c.commands_are_seen.ensures c.args.commands.now c.loop-command.command-index c.command-item.result c.loop-command.movie c.take_step.new.movie old.held s t
+          (drop_at c.args.commands.now c.loop-command.command-index c.command-item.result c.loop-command-test.true c.command-item.is) c.loop-command.invariant.seen (search rules) (search rules);
     }
+
+pub returns-clause-seen : goal.returns-clause-seen
+returns-clause-seen g c =
+    rolls_all c.args.commands.now c.loop-command.command-index c.loop-command.movie (g.F.Folder.state c.args.folder.now).held (g.F.Folder.state c.loop-command.folder) (omega (arith, c.loop-command-test.false)) c.loop-command.invariant.seen
 
 pub returns-clause-folder : goal.returns-clause-folder
 returns-clause-folder g c =

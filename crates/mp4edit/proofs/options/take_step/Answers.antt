@@ -1,13 +1,32 @@
-use Rattle.std.proofs.Common.{rules, ◌≡◌, IfSome, OnOk, refl, sym, subst}
+use Rattle.std.proofs.Common.{rules, ◌≡◌, ◌<◌, ℤ, FitsSigned, w32, to_z, of_z, IfSome, OnOk, refl, sym, subst}
+use Rattle.std.proofs.lemmas.Int.{to_z-of_z}
+use Rattle.mp_ports.specs.Gives.{refusal}
 use Rattle.mp_pieces.specs.Copied.{sizes_of}
 use Rattle.mp_movie.specs.StandsFor.{Hold, stands_for}
+use Rattle.mp_movie.specs.WellFormed.{AreDistinct}
+use Rattle.track_ops.specs.Delay.{delay}
+use Rattle.track_ops.specs.Does.{Does}
+use Rattle.track_ops.specs.Later.{DelaysShown}
+use Rattle.track_ops.specs.Numbers.{numbers_of}
+use Rattle.track_ops.specs.SeenLaw.{ShowDelayed}
+use Rattle.track_ops.specs.SetScales.{set_movie_scale, set_track_scale}
 use Rattle.track_ops.specs.Tracks.{remove, set_enabled, set_language}
-use Rattle.mp_words.specs.Jobs.{Asked, Enables, Removes, SetsLanguage}
+use Rattle.mp_words.specs.Jobs.{Asked, Adds, Delays, Enables, Removes, ScalesMovie, ScalesTrack, SetsLanguage}
 use Rattle.mp4edit.specs.Names.{NeedsAll, names_of}
 use Rattle.mp4edit.specs.Outcome.{applied}
 use Rattle.mp4edit.specs.Reading.{Gives, OpensFiles, told_files}
-use Rattle.mp4edit.proofs.Folds.{done_gives, done_holds, opens_no_file}
+use Rattle.mp4edit.proofs.Folds.{done_gives, done_holds, failed_gives, failed_holds, fails_no_file, opens_no_file}
+use Rattle.mp4edit.proofs.Rolls.{delay_shows, known, own_numbers}
 use Rattle.mp4edit.proofs.options.take_step.Goals as goal
+
+pub returns-in-Add-clause-folder : goal.returns-in-Add-clause-folder
+returns-in-Add-clause-folder g c =
+    let s = g.F.Folder.state c.args.folder.now in
+    let t = g.F.Folder.state c.add_input.new.folder in
+    let what = Adds c.deref.result.now c.in-Add.choice c.in-Add.rate in
+    let is : c.args.command.now.what ≡ what = search rules in
+    let opens : OpensFiles {A = Unit} c.add_input.result (names_of what) 3 (NeedsAll what) s t = c.add_input.ensures.folder in
+    subst (λ (w : Asked). OpensFiles {A = Unit} c.add_input.result (names_of w) 3 (NeedsAll w) s t) (sym is) opens
 
 pub returns-in-Rem-clause-movie : goal.returns-in-Rem-clause-movie
 returns-in-Rem-clause-movie g c =
@@ -80,3 +99,111 @@ returns-in-Enabled-clause-folder g c =
     let opens : OpensFiles {A = Unit} c.of_done-in-Enabled.result (names_of what) 3 (NeedsAll what) s s =
     rw c.of_done-in-Enabled.ensures (opens_no_file what (NeedsAll what) c.command.inside.place c.set_enabled.result s (λ files. refl)) in
     subst (λ (w : Asked). OpensFiles {A = Unit} c.of_done-in-Enabled.result (names_of w) 3 (NeedsAll w) s s) (sym is) opens
+
+pub returns-in-Delay-clause-movie : goal.returns-in-Delay-clause-movie
+returns-in-Delay-clause-movie g c =
+    let s = g.F.Folder.state c.args.folder.now in
+    let made = delay c.in-Delay.number c.in-Delay.ms in
+    let fits : FitsSigned w32 c.in-Delay.ms = search rules in
+    let does : Does {A = Unit} refusal made c.args.movie.now c.delay.new.movie c.delay.result =
+    subst (λ (ms : ℤ). Does {A = Unit} refusal (delay c.in-Delay.number ms) c.args.movie.now c.delay.new.movie c.delay.result) (to_z-of_z w32 c.in-Delay.ms fits) c.delay.ensures.delayed in
+    let gives : IfSome s.held (λ files. Gives {A = Unit} (λ _. c.delay.new.movie) c.of_failed.result s (applied c.command.inside.place (made (stands_for (told_files s) c.args.movie.now)))) =
+    rw c.of_failed.ensures (failed_gives s c.command.inside.place made c.args.movie.now c.delay.new.movie c.delay.result c.requires.told c.requires.held does) in
+    search (rules, gives)
+
+pub returns-in-Delay-clause-held : goal.returns-in-Delay-clause-held
+returns-in-Delay-clause-held g c =
+    let s = g.F.Folder.state c.args.folder.now in
+    let ms = to_z w32 (of_z w32 c.in-Delay.ms) in
+    let held : OnOk c.of_failed.result (Hold (sizes_of s) c.delay.new.movie) =
+    rw c.of_failed.ensures (failed_holds (sizes_of s) c.command.inside.place (delay c.in-Delay.number ms) c.args.movie.now c.delay.new.movie c.delay.result c.requires.held c.delay.ensures.delayed) in
+    search (rules, held)
+
+pub returns-in-Delay-clause-folder : goal.returns-in-Delay-clause-folder
+returns-in-Delay-clause-folder g c =
+    let s = g.F.Folder.state c.args.folder.now in
+    let what = Delays c.in-Delay.number c.in-Delay.ms in
+    let is : c.args.command.now.what ≡ what = search rules in
+    let opens : OpensFiles {A = Unit} c.of_failed.result (names_of what) 3 (NeedsAll what) s s =
+    rw c.of_failed.ensures (fails_no_file what (NeedsAll what) c.command.inside.place c.delay.result s (λ files. refl)) in
+    subst (λ (w : Asked). OpensFiles {A = Unit} c.of_failed.result (names_of w) 3 (NeedsAll w) s s) (sym is) opens
+
+pub returns-in-Delay-clause-done : goal.returns-in-Delay-clause-done
+returns-in-Delay-clause-done g c =
+    let s = g.F.Folder.state c.args.folder.now in
+    let number = c.in-Delay.number in
+    let ms = c.in-Delay.ms in
+    let is : c.args.command.now.what ≡ Delays number ms = search rules in
+    let fits : FitsSigned w32 ms = search rules in
+    let shown : OnOk c.delay.result (DelaysShown number ms c.args.movie.now c.delay.new.movie) =
+    subst (λ (ms : ℤ). OnOk c.delay.result (DelaysShown number ms c.args.movie.now c.delay.new.movie)) (to_z-of_z w32 ms fits) c.delay.ensures.shown in
+    let done : IfSome s.held (λ files. OnOk c.of_failed.result (ShowDelayed number ms (stands_for (told_files s) c.args.movie.now) (stands_for (told_files s) c.delay.new.movie))) =
+    rw c.of_failed.ensures (delay_shows s.held s c.command.inside.place number ms c.args.movie.now c.delay.new.movie c.delay.result c.requires.told c.requires.held shown) in
+    search (rules, is, done)
+
+pub returns-in-TrackScale-clause-movie : goal.returns-in-TrackScale-clause-movie
+returns-in-TrackScale-clause-movie g c =
+    let s = g.F.Folder.state c.args.folder.now in
+    let made = set_track_scale c.in-TrackScale.number c.in-TrackScale.scale in
+    let gives : IfSome s.held (λ files. Gives {A = Unit} (λ _. c.set_track_scale.new.movie) c.of_done-in-TrackScale.result s (applied c.command.inside.place (made (stands_for (told_files s) c.args.movie.now)))) =
+    rw c.of_done-in-TrackScale.ensures (done_gives s c.command.inside.place made c.args.movie.now c.set_track_scale.new.movie c.set_track_scale.result c.requires.told c.requires.held c.set_track_scale.ensures) in
+    search (rules, gives)
+
+pub returns-in-TrackScale-clause-held : goal.returns-in-TrackScale-clause-held
+returns-in-TrackScale-clause-held g c =
+    let s = g.F.Folder.state c.args.folder.now in
+    let held : OnOk c.of_done-in-TrackScale.result (Hold (sizes_of s) c.set_track_scale.new.movie) =
+    rw c.of_done-in-TrackScale.ensures (done_holds (sizes_of s) c.command.inside.place (set_track_scale c.in-TrackScale.number c.in-TrackScale.scale) c.args.movie.now c.set_track_scale.new.movie c.set_track_scale.result c.requires.held c.set_track_scale.ensures) in
+    search (rules, held)
+
+pub returns-in-TrackScale-clause-folder : goal.returns-in-TrackScale-clause-folder
+returns-in-TrackScale-clause-folder g c =
+    let s = g.F.Folder.state c.args.folder.now in
+    let what = ScalesTrack c.in-TrackScale.number c.in-TrackScale.scale in
+    let is : c.args.command.now.what ≡ what = search rules in
+    let opens : OpensFiles {A = Unit} c.of_done-in-TrackScale.result (names_of what) 3 (NeedsAll what) s s =
+    rw c.of_done-in-TrackScale.ensures (opens_no_file what (NeedsAll what) c.command.inside.place c.set_track_scale.result s (λ files. refl)) in
+    subst (λ (w : Asked). OpensFiles {A = Unit} c.of_done-in-TrackScale.result (names_of w) 3 (NeedsAll w) s s) (sym is) opens
+
+pub returns-in-TrackScale-clause-done : goal.returns-in-TrackScale-clause-done
+returns-in-TrackScale-clause-done g c =
+    let s = g.F.Folder.state c.args.folder.now in
+    let what = ScalesTrack c.in-TrackScale.number c.in-TrackScale.scale in
+    let is : c.args.command.now.what ≡ what = search rules in
+    let some : 0 < c.in-TrackScale.scale = search rules in
+    let done : IfSome s.held (λ files. OnOk c.of_done-in-TrackScale.result ((0 < c.in-TrackScale.scale) × AreDistinct (numbers_of (stands_for (told_files s) c.args.movie.now).tracks))) =
+    known s.held c.of_done-in-TrackScale.result _ (some, own_numbers c.parts_stand_for_movies.ensures s c.args.movie.now c.tracks-tracks.ensures.whole) in
+    search (rules, is, done)
+
+pub returns-in-MovieScale-clause-movie : goal.returns-in-MovieScale-clause-movie
+returns-in-MovieScale-clause-movie g c =
+    let s = g.F.Folder.state c.args.folder.now in
+    let made = set_movie_scale c.in-MovieScale.scale in
+    let gives : IfSome s.held (λ files. Gives {A = Unit} (λ _. c.set_movie_scale.new.movie) c.of_done-in-MovieScale.result s (applied c.command.inside.place (made (stands_for (told_files s) c.args.movie.now)))) =
+    rw c.of_done-in-MovieScale.ensures (done_gives s c.command.inside.place made c.args.movie.now c.set_movie_scale.new.movie c.set_movie_scale.result c.requires.told c.requires.held c.set_movie_scale.ensures) in
+    search (rules, gives)
+
+pub returns-in-MovieScale-clause-held : goal.returns-in-MovieScale-clause-held
+returns-in-MovieScale-clause-held g c =
+    let s = g.F.Folder.state c.args.folder.now in
+    let held : OnOk c.of_done-in-MovieScale.result (Hold (sizes_of s) c.set_movie_scale.new.movie) =
+    rw c.of_done-in-MovieScale.ensures (done_holds (sizes_of s) c.command.inside.place (set_movie_scale c.in-MovieScale.scale) c.args.movie.now c.set_movie_scale.new.movie c.set_movie_scale.result c.requires.held c.set_movie_scale.ensures) in
+    search (rules, held)
+
+pub returns-in-MovieScale-clause-folder : goal.returns-in-MovieScale-clause-folder
+returns-in-MovieScale-clause-folder g c =
+    let s = g.F.Folder.state c.args.folder.now in
+    let what = ScalesMovie c.in-MovieScale.scale in
+    let is : c.args.command.now.what ≡ what = search rules in
+    let opens : OpensFiles {A = Unit} c.of_done-in-MovieScale.result (names_of what) 3 (NeedsAll what) s s =
+    rw c.of_done-in-MovieScale.ensures (opens_no_file what (NeedsAll what) c.command.inside.place c.set_movie_scale.result s (λ files. refl)) in
+    subst (λ (w : Asked). OpensFiles {A = Unit} c.of_done-in-MovieScale.result (names_of w) 3 (NeedsAll w) s s) (sym is) opens
+
+pub returns-in-MovieScale-clause-done : goal.returns-in-MovieScale-clause-done
+returns-in-MovieScale-clause-done g c =
+    let s = g.F.Folder.state c.args.folder.now in
+    let what = ScalesMovie c.in-MovieScale.scale in
+    let is : c.args.command.now.what ≡ what = search rules in
+    let some : 0 < c.in-MovieScale.scale = search rules in
+    let done : IfSome s.held (λ files. OnOk c.of_done-in-MovieScale.result (0 < c.in-MovieScale.scale)) = known s.held c.of_done-in-MovieScale.result _ some in
+    search (rules, is, done)

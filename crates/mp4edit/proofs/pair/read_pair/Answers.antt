@@ -1,4 +1,4 @@
-use Rattle.std.proofs.Common.{◌≡◌, List, Option, Ok, Err, IfSome, sym, subst, ap}
+use Rattle.std.proofs.Common.{List, Option, Ok, Err, IfSome, sym, subst, ap}
 use Rattle.mp_ports.specs.Folder.{FolderState, HeldFile}
 use Rattle.mp_pieces.specs.Copied.{sizes_of}
 use Rattle.mp_movie.specs.Placed.{PlacedMovie}

@@ -9,12 +9,11 @@ use Rattle.mp4edit.proofs.run.mp4edit.Goals as goal
 
 pub returns-in-Ok-Edit-clause-edit : goal.returns-in-Ok-Edit-clause-edit
 returns-in-Ok-Edit-clause-edit g c =
-    let e = c.write_movie.ensures in
     let output : OutputRecord = record { name = string_bytes c.in-Ok-Edit.out; command = c.in-Ok-Edit.out_command; window = c.in-Ok-Edit.window } in
     let commands : c.in-Ok-Edit.commands.items ≡ c.deref.result.now = search rules in
     edit_ends (job (map string_bytes c.args.words.now)) (edit_of c.deref.result.now output) _ _ _ _ _
     (c.in-Ok-Edit.ensures.job ∙ (ap (λ j. Ok (job_record j)) c.in-Ok-Edit.field-0-is ∙ ap (λ l. Ok (Edits (edit_of l output))) commands))
-    (record { inputs = e.inputs; left = e.left; told = e.told; said = e.said; complete = e.complete })
+    c.write_movie.ensures.ends
 
 pub returns-in-Ok-Dump-clause-dump : goal.returns-in-Ok-Dump-clause-dump
 returns-in-Ok-Dump-clause-dump g c =
