@@ -8,6 +8,8 @@ mod cut;
 mod law;
 mod shape;
 mod tally;
+#[cfg(test)]
+mod tests;
 mod touching;
 
 pub use clipping::{clip, clip_back};
