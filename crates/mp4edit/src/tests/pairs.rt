@@ -3,57 +3,82 @@ ghost use Rattle.std.specs.Prelude.{◌≡◌, [], None, IfOk};
 
 use super::{FRAME, words};
 use crate::{Ending, mp4edit};
-use mp_ports::{MemFile, MemFolder, MemReport};
+use mp_ports::{Bad, Code, MemFile, MemFolder, MemReport};
 use std::alloc::Global;
+use std::process::Abort;
 use std::test::Fail;
 
 // A table of sound (object type 0x40) in 1000 ticks a second, of two units of two bytes: each is whole and may be
 // decoded first, the second 50 ticks behind the first.
-const TABLE: &[u8] =
+pub const TABLE: &[u8] =
     b"NHnt\x00\x05\x40\x00\x00\x00\x00\x00\x00\x00\x00\x00\x00\x00\x00\x00\x00\x00\x03\xe8\
     \x00\x00\x02\xe0\x00\x00\x00\x00\x00\x00\x00\x00\x00\x00\x00\x00\
     \x00\x00\x02\xe0\x00\x00\x00\x02\x00\x00\x00\x32\x00\x00\x00\x32";
 
-const MEDIA: &[u8] = b"\xaa\xbb\xcc\xdd";
+pub const MEDIA: &[u8] = b"\xaa\xbb\xcc\xdd";
 
 // How a line ended, what it wrote and said.
 #[derive(Drop)]
-struct Ended {
-    ending: Ending,
-    written: Vec<u8>,
-    said: Vec<u8>,
+pub struct Ended {
+    pub ending: Ending,
+    pub written: Vec<u8>,
+    pub said: Vec<u8>,
 }
 
 // A folder that holds these files, and whose calls of these numbers fail.
-fn folder(alloc: Global, held: &[(&str, &[u8])], failing: &[u64]) -> Result<MemFolder, Fail>
+fn folder(alloc: Global, files: Vec<MemFile>, failing: &[u64]) -> Result<MemFolder, Fail>
     ensures opened { IfOk result (λ f. f.folder.opened ≡ []) }
     ensures output { IfOk result (λ f. f.folder.output ≡ None) }
 {
-    let mut files = Vec::new(alloc);
-    for &(name, bytes) in held {
-        files.push(MemFile {
-            name: String::from_str(alloc, name)?,
-            bytes: bytes.to_vec(alloc)?,
-        })?;
-    }
     Ok(MemFolder::new(alloc, files, failing.to_vec(alloc)?))
 }
 
-// Runs a line over that folder.
-fn run(
+// Adds a file of that name.
+fn hold(alloc: Global, files: &mut Vec<MemFile>, name: &str, bytes: &[u8]) -> Result<(), Fail> {
+    let name = String::from_str(alloc, name)?;
+    let bytes = bytes.to_vec(alloc)?;
+    files.push(MemFile { name, bytes })?;
+    Ok(())
+}
+
+// Runs a line over a folder of these files.
+fn run_over(
     alloc: Global,
     texts: &[&str],
-    held: &[(&str, &[u8])],
+    files: Vec<MemFile>,
     failing: &[u64],
 ) -> Result<Ended, Fail> {
     let line = words(alloc, texts)?;
-    let mut files = folder(alloc, held, failing)?;
+    let mut files = folder(alloc, files, failing)?;
     let mut report = MemReport::new(alloc, Vec::new(alloc));
     let ending = mp4edit(alloc, &line, &mut files, &mut report);
     Ok(Ended {
         ending,
         written: files.written().to_vec(alloc)?,
         said: report.said().to_vec(alloc)?,
+    })
+}
+
+// Runs a line over files of these names.
+pub fn run(
+    alloc: Global,
+    texts: &[&str],
+    held: &[(&str, &[u8])],
+    failing: &[u64],
+) -> Result<Ended, Fail> {
+    let mut files = Vec::new(alloc);
+    for &(name, bytes) in held {
+        hold(alloc, &mut files, name, bytes)?;
+    }
+    run_over(alloc, texts, files, failing)
+}
+
+pub fn refused(code: Code, command: u32, file: u32, place: u64) -> Ending {
+    let bad = Bad::at(code, place);
+    Ending::Refused(Bad {
+        command,
+        file,
+        ..bad
     })
 }
 
@@ -87,6 +112,105 @@ fn a_pair_is_written(rt: HostRuntime) -> Result<(), Fail> {
             .as_slice()
     );
     Ok(())
+}
+
+// How the line that adds a pair ends, and how many bytes it writes, where these of its three files are held.
+fn ends(
+    rt: &impl Abort,
+    alloc: Global,
+    table: Option<&[u8]>,
+    media: Option<&[u8]>,
+    info: Option<&[u8]>,
+    ending: Ending,
+    length: usize,
+) -> Result<(), Fail> {
+    let mut files = Vec::new(alloc);
+    if let Some(bytes) = table {
+        hold(alloc, &mut files, "n.nhnt", bytes)?;
+    }
+    if let Some(bytes) = media {
+        hold(alloc, &mut files, "n.media", bytes)?;
+    }
+    if let Some(bytes) = info {
+        hold(alloc, &mut files, "n.info", bytes)?;
+    }
+    let got = run_over(alloc, &["-add", "n.nhnt", "-out", "o.mp4"], files, &[])?;
+    assert_eq!(rt; got.ending, ending);
+    assert_eq!(rt; got.written.len(), length);
+    Ok(())
+}
+
+// So many bytes, all 0.
+fn zeros(alloc: Global, len: usize) -> Result<Vec<u8>, Fail> {
+    Ok(vec![in alloc; 0u8; len]?)
+}
+
+#[test]
+fn an_info_file_is_the_configuration(rt: HostRuntime) -> Result<(), Fail> {
+    let alloc = rt.alloc();
+    let (table, media) = (Some(TABLE), Some(MEDIA));
+    let most = zeros(alloc, 65_536)?;
+    ends(&rt, alloc, table, media, None, Ending::Done, 576)?;
+    // no bytes of it are no configuration, either
+    ends(&rt, alloc, table, media, Some(b""), Ending::Done, 576)?;
+    // two bytes of it stand behind a head of two bytes
+    ends(
+        &rt,
+        alloc,
+        table,
+        media,
+        Some(b"\x12\x10"),
+        Ending::Done,
+        580,
+    )?;
+    // with 65,536 bytes of it the lengths of three descriptors take two bytes more each
+    ends(&rt, alloc, table, media, Some(&most), Ending::Done, 66_120)
+}
+
+#[test]
+fn an_info_file_has_at_most_65536_bytes(rt: HostRuntime) -> Result<(), Fail> {
+    let alloc = rt.alloc();
+    let long = zeros(alloc, 65_537)?;
+    let refused = refused(Code::NhntHead, 1, 2, 0);
+    let (table, media) = (Some(TABLE), Some(MEDIA));
+    ends(&rt, alloc, table, media, Some(&long), refused, 0)
+}
+
+#[test]
+fn a_record_is_refused_at_its_place(rt: HostRuntime) -> Result<(), Fail> {
+    let alloc = rt.alloc();
+    let media = Some(MEDIA);
+    // flags that don't begin a unit
+    let mut part = TABLE.to_vec(alloc)?;
+    if let Some(flags) = part.get_mut(43) {
+        *flags = 0xA0;
+    }
+    let unit = refused(Code::NhntUnit, 1, 0, 40);
+    ends(&rt, alloc, Some(&part), media, None, unit, 0)?;
+    let cut = refused(Code::NhntCut, 1, 0, 40);
+    ends(&rt, alloc, TABLE.get(..55), media, None, cut, 0)?;
+    let range = refused(Code::NhntRange, 1, 0, 40);
+    ends(
+        &rt,
+        alloc,
+        Some(TABLE),
+        Some(b"\xaa\xbb\xcc"),
+        None,
+        range,
+        0,
+    )
+}
+
+#[test]
+fn a_missing_file_is_told_before_a_fault(rt: HostRuntime) -> Result<(), Fail> {
+    let alloc = rt.alloc();
+    let missing = Ending::NoFile { command: 1 };
+    // one byte of the table is cut off
+    let cut = TABLE.get(..55);
+    ends(&rt, alloc, cut, None, None, missing, 0)?;
+    ends(&rt, alloc, cut, None, Some(b""), missing, 0)?;
+    ends(&rt, alloc, None, Some(MEDIA), Some(b""), missing, 0)?;
+    ends(&rt, alloc, None, None, None, missing, 0)
 }
 
 #[test]
