@@ -106,7 +106,8 @@ fn a_pair_is_written(rt: HostRuntime) -> Result<(), Fail> {
     assert_eq!(rt;
         told.said.as_slice(),
         b"movie scale 1000 duration 100 tracks 1\n\
-          track 1 handler soun entry mp4a scale 1000 samples 2 sync 2 bytes 4 duration 100 language und enabled edits none\n\
+          track 1 handler soun entry mp4a scale 1000 samples 2 sync 2 bytes 4 \
+          duration 100 language und enabled edits none\n\
           sample 1 size 2 decode 0 duration 50 composition 0 sync entry 1\n\
           sample 2 size 2 decode 50 duration 50 composition 50 sync entry 1\n"
             .as_slice()
