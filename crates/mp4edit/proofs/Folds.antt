@@ -13,6 +13,7 @@ use Rattle.mp_movie.specs.StandsFor.{Hold, stands_for}
 use Rattle.track_ops.specs.declared.chosen.Choice.{Choice}
 use Rattle.track_ops.specs.Adding.{add}
 use Rattle.track_ops.specs.Does.{Adds, Does}
+use Rattle.mp_words.specs.declared.job.Rate.{Rate}
 use Rattle.mp_words.specs.Jobs.{Asked, CommandRecord}
 use Rattle.mp4edit.specs.declared.stop.Stop.{Stop}
 use Rattle.mp4edit.specs.Names.{NeedAll, NeedsAll, names_of, reads}
@@ -111,13 +112,13 @@ abbrev pub why : Fail × PlacedMovie → Option Refused
 why refused = refusal refused.0
 
 -- tracks of the movie that was read are added to the movie so far, which stays what it is though files were opened
-pub added_gives : {A : Type 0} → FilesMayFollow → (s t : FolderState) (more : List OpenedFile) (name : List ℕ) (command : ℕ) (choice : Choice) (other old new : PlacedMovie) (done : Result A (Fail × PlacedMovie))
+pub added_gives : {A : Type 0} → FilesMayFollow → (s t : FolderState) (more : List OpenedFile) (name : List ℕ) (rate : Option Rate) (command : ℕ) (choice : Choice) (other old new : PlacedMovie) (done : Result A (Fail × PlacedMovie))
     → t.opened ≡ s.opened ++ more
     → IfSome s.held (λ _. AllTold s) → IfSome s.held (λ _. AllTold t) → Hold (sizes_of s) old → Hold (sizes_of t) other
-    → IfSome s.held (λ files. Gives {A = PlacedMovie} (λ movie. movie) (Ok other) t (input files command name))
+    → IfSome s.held (λ files. Gives {A = PlacedMovie} (λ movie. movie) (Ok other) t (input files command name rate))
     → Adds {A = A} why choice other old new done
-    → IfSome s.held (λ files. Gives {A = A} (λ _. new) (answered command done) t (add_outcome files command name choice (stands_for (told_files s) old)))
-added_gives {A} follow s t more name command choice other old new done opened told all held held_other reads adds = of_held s.held told all reads
+    → IfSome s.held (λ files. Gives {A = A} (λ _. new) (answered command done) t (add_outcome files command name choice rate (stands_for (told_files s) old)))
+added_gives {A} follow s t more name rate command choice other old new done opened told all held held_other reads adds = of_held s.held told all reads
   where
     by : (done : Result A (Fail × PlacedMovie)) (movie : MovieRecord) (found : Outcome) → AllTold t → Hold (map length (told_files t)) old
         → stands_for (told_files t) old ≡ movie → found ≡ Movie (stands_for (told_files t) other) → Adds {A = A} why choice other old new done
@@ -129,13 +130,13 @@ added_gives {A} follow s t more name command choice other old new done opened to
     by (Err (Fail.NoMemory, back)) movie found all hold same is adds = tt
 
     of_held : (holds : Option (List HeldFile)) → IfSome holds (λ _. AllTold s) → IfSome holds (λ _. AllTold t)
-        → IfSome holds (λ files. Gives {A = PlacedMovie} (λ movie. movie) (Ok other) t (input files command name))
-        → IfSome holds (λ files. Gives {A = A} (λ _. new) (answered command done) t (add_outcome files command name choice (stands_for (told_files s) old)))
+        → IfSome holds (λ files. Gives {A = PlacedMovie} (λ movie. movie) (Ok other) t (input files command name rate))
+        → IfSome holds (λ files. Gives {A = A} (λ _. new) (answered command done) t (add_outcome files command name choice rate (stands_for (told_files s) old)))
     of_held None told all reads = tt
     of_held (Some files) told all reads =
         let before : Hold (map length (told_files s)) old = subst (λ (sizes : List ℕ). Hold sizes old) (same_sizes s told) held in
         let files_then = told_more s t more opened in
-        by done (stands_for (told_files s) old) (input files command name) all
+        by done (stands_for (told_files s) old) (input files command name rate) all
         (subst (λ (sizes : List ℕ). Hold sizes old) (same_sizes t all) (subst (λ (sizes : List ℕ). Hold sizes old) (sym (sizes_more s t more opened)) (follow.hold (sizes_of s) _ old held)))
         (ap (λ (l : List (List ℕ)). stands_for l old) files_then ∙ follow.same (told_files s) _ old before)
         reads adds

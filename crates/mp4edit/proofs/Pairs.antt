@@ -7,6 +7,7 @@ use Rattle.mp_ports.specs.Folder.{FolderState, HeldFile, OpenedFile, Opens, byte
 use Rattle.mp_movie.specs.Placed.{PlacedMovie}
 use Rattle.mp_movie.specs.StandsFor.{Reads}
 use Rattle.mp_read.specs.Read.{IsStretch, LiesIn}
+use Rattle.mp_words.specs.declared.job.Rate.{Rate}
 use Rattle.mp_words.specs.declared.name.FileKind.{FileKind}
 use Rattle.mp_words.specs.Names.{beside, files_with}
 use Rattle.nhnt_import.specs.Pair.{info_bytes, pair_movie}
@@ -237,23 +238,23 @@ pair_files A read (Some FileKind.Nhnt) name s t is h =
     files_as A read (held_names (files_with (Some FileKind.Nhnt) name)) (held_names (files_with (Some FileKind.Nhnt) name)) 3 3 ⊥ (true ≡ false) s t (λ files. refl) (omega arith) (λ no. true≢false no) h
 
 -- and so is what it comes to
-pub pair_input_gives : (held : Option (List HeldFile)) (kind : Option FileKind) (name : List ℕ) (command : ℕ) (read : Result PlacedMovie Stop) (t : FolderState) → is_nhnt kind ≡ true
+pub pair_input_gives : (held : Option (List HeldFile)) (kind : Option FileKind) (name : List ℕ) (rate : Option Rate) (command : ℕ) (read : Result PlacedMovie Stop) (t : FolderState) → is_nhnt kind ≡ true
     → IfSome held (λ files. Gives {A = PlacedMovie} (λ movie. movie) read t (pair_input files command name))
-    → IfSome held (λ files. Gives {A = PlacedMovie} (λ movie. movie) read t (input_as kind files command name))
-pair_input_gives held None name command read t is gives = absurd (true≢false (sym is))
-pair_input_gives held (Some FileKind.Mp4) name command read t is gives = absurd (true≢false (sym is))
-pair_input_gives held (Some FileKind.Avc) name command read t is gives = absurd (true≢false (sym is))
-pair_input_gives held (Some FileKind.Adts) name command read t is gives = absurd (true≢false (sym is))
-pair_input_gives held (Some FileKind.Nhnt) name command read t is gives = gives
+    → IfSome held (λ files. Gives {A = PlacedMovie} (λ movie. movie) read t (input_as kind files command name rate))
+pair_input_gives held None name rate command read t is gives = absurd (true≢false (sym is))
+pair_input_gives held (Some FileKind.Mp4) name rate command read t is gives = absurd (true≢false (sym is))
+pair_input_gives held (Some FileKind.Avc) name rate command read t is gives = absurd (true≢false (sym is))
+pair_input_gives held (Some FileKind.Adts) name rate command read t is gives = absurd (true≢false (sym is))
+pair_input_gives held (Some FileKind.Nhnt) name rate command read t is gives = gives
 
-pub file_input_gives : (held : Option (List HeldFile)) (kind : Option FileKind) (name : List ℕ) (command : ℕ) (read : Result PlacedMovie Stop) (t : FolderState) → is_nhnt kind ≡ false
-    → IfSome held (λ files. Gives {A = PlacedMovie} (λ movie. movie) read t (file_input files command name))
-    → IfSome held (λ files. Gives {A = PlacedMovie} (λ movie. movie) read t (input_as kind files command name))
-file_input_gives held None name command read t is gives = gives
-file_input_gives held (Some FileKind.Mp4) name command read t is gives = gives
-file_input_gives held (Some FileKind.Avc) name command read t is gives = gives
-file_input_gives held (Some FileKind.Adts) name command read t is gives = gives
-file_input_gives held (Some FileKind.Nhnt) name command read t is gives = absurd (true≢false is)
+pub file_input_gives : (held : Option (List HeldFile)) (kind : Option FileKind) (name : List ℕ) (rate : Option Rate) (command : ℕ) (read : Result PlacedMovie Stop) (t : FolderState) → is_nhnt kind ≡ false
+    → IfSome held (λ files. Gives {A = PlacedMovie} (λ movie. movie) read t (file_input files command name rate))
+    → IfSome held (λ files. Gives {A = PlacedMovie} (λ movie. movie) read t (input_as kind files command name rate))
+file_input_gives held None name rate command read t is gives = gives
+file_input_gives held (Some FileKind.Mp4) name rate command read t is gives = gives
+file_input_gives held (Some FileKind.Avc) name rate command read t is gives = gives
+file_input_gives held (Some FileKind.Adts) name rate command read t is gives = gives
+file_input_gives held (Some FileKind.Nhnt) name rate command read t is gives = absurd (true≢false is)
 
 -- that of one file is the only one of any other kind
 pub one_file : (A : Type 0) (read : Result A Stop) (kind : Option FileKind) (name : List ℕ) (s t : FolderState) → is_nhnt kind ≡ false

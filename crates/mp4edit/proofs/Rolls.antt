@@ -44,7 +44,7 @@ applied_is command (Err code) made is = cc
 -- what an option makes of a movie is seen as the option says
 step_seen : CommandsAreSeen → (files : List HeldFile) (command : ℕ) (what : Asked) (movie made : MovieRecord) (views : List View) → step files command what movie ≡ Movie made → IsCarriedOut files command what movie made
     → AreSeenAs movie views → AreSeenAs made (seen_behind files command what views)
-step_seen law files command (Adds name choice rate) movie made views is scales seen = by (input files command name) is scales
+step_seen law files command (Adds name choice rate) movie made views is scales seen = by (input files command name rate) is scales
   where
     by : (found : Outcome) → and_then found (λ other. applied command (add choice other movie)) ≡ Movie made → HasMovieScales found → AreSeenAs made (with_input found (with_added choice) views)
     by (Movie other) is scales = law.add choice other movie made views scales (applied_is command (add choice other movie) made is) seen

@@ -10,6 +10,8 @@ use Rattle.mp_timeline.specs.Plain.{plain_movie_head}
 use Rattle.mp_movie.specs.Placed.{plain_scale}
 use Rattle.mp_movie.specs.Present.{reading}
 use Rattle.adts_import.specs.Stream.{stream_movie}
+use Rattle.avc_import.specs.declared.rate.Rate.{Rate as PictureRate}
+use Rattle.avc_import.specs.Stream.{stream_movie as pictures_movie}
 use Rattle.nhnt_import.specs.Pair.{pair_movie}
 use Rattle.track_ops.specs.declared.chosen.Choice.{Choice}
 use Rattle.track_ops.specs.Adding.{add}
@@ -18,7 +20,8 @@ use Rattle.track_ops.specs.SetScales.{set_movie_scale, set_track_scale}
 use Rattle.track_ops.specs.Tracks.{remove, set_enabled, set_language}
 use Rattle.mp_layout.specs.File.{moov_fault}
 use Rattle.mp_words.specs.declared.name.FileKind.{FileKind}
-use Rattle.mp_words.specs.declared.name.FileKind.TheVariants.{Adts, Nhnt}
+use Rattle.mp_words.specs.declared.name.FileKind.TheVariants.{Adts, Avc, Nhnt}
+use Rattle.mp_words.specs.declared.job.Rate.{Rate}
 use Rattle.mp_words.specs.Jobs.{Asked, Adds, Removes, Delays, ScalesTrack, ScalesMovie, SetsLanguage, Enables, CommandRecord, EditRecord}
 use Rattle.mp_words.specs.Names.{beside, kind_of}
 
@@ -39,19 +42,25 @@ abbrev pub outcome_of : ℕ → Result MovieRecord Bad → Outcome
 outcome_of command (Ok movie) = Movie movie
 outcome_of command (Err bad) = Refusal (record bad { command = command })
 
--- the movie of a file of that kind
-abbrev pub read_as : Option FileKind → List ℕ → Result MovieRecord Bad
-read_as (Some Adts) bytes = stream_movie bytes
-read_as _ bytes = reading bytes
+-- the rate of the pictures of a stream of H.264
+abbrev pub picture_rate : Option Rate → Option PictureRate
+picture_rate None = None
+picture_rate (Some rate) = Some (record { num = rate.num; den = rate.den })
+
+-- the movie of a file of that kind; the rate is that of a stream of H.264
+abbrev pub read_as : Option FileKind → Option Rate → List ℕ → Result MovieRecord Bad
+read_as (Some Adts) rate bytes = stream_movie bytes
+read_as (Some Avc) rate bytes = pictures_movie (picture_rate rate) bytes
+read_as _ rate bytes = reading bytes
 
 -- what an option's file comes to, where one of its name is held
-abbrev pub input_outcome : Option FileKind → ℕ → Option (List ℕ) → Outcome
-input_outcome kind command None = Absent command
-input_outcome kind command (Some bytes) = outcome_of command (read_as kind bytes)
+abbrev pub input_outcome : Option FileKind → Option Rate → ℕ → Option (List ℕ) → Outcome
+input_outcome kind rate command None = Absent command
+input_outcome kind rate command (Some bytes) = outcome_of command (read_as kind rate bytes)
 
 -- the one file of that name, which is no NHNT table
-abbrev pub file_input : List HeldFile → ℕ → List ℕ → Outcome
-file_input files command name = input_outcome (kind_of name) command (bytes_under name files)
+abbrev pub file_input : List HeldFile → ℕ → List ℕ → Option Rate → Outcome
+file_input files command name rate = input_outcome (kind_of name) rate command (bytes_under name files)
 
 -- what an NHNT pair comes to, where its table and its `.media` file are held; without an `.info` file, `info` has no bytes
 abbrev pub pair_outcome : ℕ → Option (List ℕ) → Option (List ℕ) → List ℕ → Outcome
@@ -65,25 +74,25 @@ pair_input files command name =
     (unwrap_or (bytes_under (beside name (codes ".info")) files) [])
 
 -- the pair, or the one file
-abbrev pub input_as : Option FileKind → List HeldFile → ℕ → List ℕ → Outcome
-input_as (Some Nhnt) files command name = pair_input files command name
-input_as kind files command name = file_input files command name
+abbrev pub input_as : Option FileKind → List HeldFile → ℕ → List ℕ → Option Rate → Outcome
+input_as (Some Nhnt) files command name rate = pair_input files command name
+input_as kind files command name rate = file_input files command name rate
 
--- the input of that name
-abbrev pub input : List HeldFile → ℕ → List ℕ → Outcome
-input files command name = input_as (kind_of name) files command name
+-- the input of that name, whose pictures have that rate where it is a stream of H.264
+abbrev pub input : List HeldFile → ℕ → List ℕ → Option Rate → Outcome
+input files command name rate = input_as (kind_of name) files command name rate
 
 -- what the option's command makes of the movie
 abbrev pub applied : ℕ → Result MovieRecord Code → Outcome
 applied command made = outcome_of command (placed 0 made)
 
 -- the chosen tracks of the input of that name are added
-abbrev pub add_outcome : List HeldFile → ℕ → List ℕ → Choice → MovieRecord → Outcome
-add_outcome files command name choice movie = and_then (input files command name) (λ other. applied command (add choice other movie))
+abbrev pub add_outcome : List HeldFile → ℕ → List ℕ → Choice → Option Rate → MovieRecord → Outcome
+add_outcome files command name choice rate movie = and_then (input files command name rate) (λ other. applied command (add choice other movie))
 
 -- an option: its input is read, and then its command is applied. No job that is built has another one than these
 abbrev pub step : List HeldFile → ℕ → Asked → MovieRecord → Outcome
-step files command (Adds name choice rate) movie = add_outcome files command name choice movie
+step files command (Adds name choice rate) movie = add_outcome files command name choice rate movie
 step files command (Removes number) movie = applied command (remove number movie)
 step files command (Delays number ms) movie = applied command (delay number ms movie)
 step files command (ScalesTrack number scale) movie = applied command (set_track_scale number scale movie)
@@ -115,7 +124,7 @@ outcome edit files = and_then (folded files edit.commands no_movie) (written edi
 
 -- what a dump comes to: what its file presents, as the input of the line's one option
 abbrev pub dump_outcome : List ℕ → List HeldFile → Outcome
-dump_outcome name files = file_input files 1 name
+dump_outcome name files = file_input files 1 name None
 
 -- it is a movie, of which this holds
 abbrev pub IsMovieAnd : Outcome → (MovieRecord → Type 0) → Type 0

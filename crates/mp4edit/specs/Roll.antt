@@ -1,6 +1,6 @@
 -- What the options of a line say of the tracks of the written file, and of each moment, given the files that are held. No movie that an
 -- option makes is looked at.
-use Rattle.std.specs.Prelude.{ℕ, List, [], ◌∷◌, IfSome, IsSomeAnd}
+use Rattle.std.specs.Prelude.{ℕ, List, [], ◌∷◌, None, IfSome, IsSomeAnd}
 use Rattle.mp_ports.specs.Folder.{FolderState, HeldFile}
 use Rattle.mp_timeline.specs.Movie.{MovieRecord}
 use Rattle.mp_movie.specs.Present.{present}
@@ -18,8 +18,8 @@ with_input _ change views = views
 
 -- the tracks behind an option, by those before it; a language, a mark and a scale change nothing that is seen
 abbrev pub seen_behind : List HeldFile → ℕ → Asked → List View → List View
-seen_behind files command (Adds name choice rate) views = with_input (input files command name) (with_added choice) views
-seen_behind files command (Joins name) views = with_input (input files command name) with_joined views
+seen_behind files command (Adds name choice rate) views = with_input (input files command name rate) (with_added choice) views
+seen_behind files command (Joins name) views = with_input (input files command name None) with_joined views
 seen_behind files command (Removes number) views = with_removed number views
 seen_behind files command (Delays number ms) views = with_delayed number ms views
 seen_behind files command (Cuts from to) views = with_cut from to views

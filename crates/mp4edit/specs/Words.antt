@@ -3,7 +3,7 @@ use Rattle.std.specs.Prelude.{ℕ, ◌-◌, ◌*◌, Bool, true, false, List, []
 use Rattle.mp_ports.specs.Checks.{◌>>=◌}
 use Rattle.mp_words.specs.declared.fault.WordKind.TheVariants.{NotYet}
 use Rattle.mp_words.specs.declared.name.FileKind.{FileKind}
-use Rattle.mp_words.specs.declared.name.FileKind.TheVariants.{Mp4, Adts, Nhnt}
+use Rattle.mp_words.specs.declared.name.FileKind.TheVariants.{Mp4, Avc, Adts, Nhnt}
 use Rattle.mp_words.specs.declared.job.DumpKind.{DumpKind}
 use Rattle.mp_words.specs.Jobs.{Asked, Adds, Removes, Delays, ScalesTrack, ScalesMovie, SetsLanguage, Enables, CommandRecord, EditRecord, JobRecord, Edits, Dumps, Generates}
 use Rattle.mp_words.specs.Line.{WordFault, job as line_job}
@@ -12,6 +12,7 @@ use Rattle.mp_words.specs.Names.{kind_of}
 -- files of that kind are read
 abbrev pub is_read : Option FileKind → Bool
 is_read (Some Mp4) = true
+is_read (Some Avc) = true
 is_read (Some Adts) = true
 is_read (Some Nhnt) = true
 is_read _ = false

@@ -39,7 +39,7 @@ pub fn tell_file<F: Folder, R: Report>(
         Completes result (dump_outcome name.now files) (F.state folder.old) (F.state folder.new)
         (R.state report.old) (R.state report.new)) }
 {
-    let movie = match read_file(alloc, folder, name, 1) {
+    let movie = match read_file(alloc, folder, name, None, 1) {
         Ok(movie) => movie,
         Err(stop) => return stop.ending(),
     };

@@ -3,7 +3,7 @@ ghost use Rattle.std.specs.Prelude.{◌≡◌, ◌*◌, ◌-◌, ◌<◌, ◌^�
 ghost use Rattle.mp_movie.specs.StandsFor.{Hold, stands_for};
 ghost use Rattle.mp_pieces.specs.Copied.{sizes_of};
 ghost use Rattle.track_ops.specs.Moments.{AreSeenAs};
-ghost use Rattle.mp_words.specs.Jobs.{IsAsked, asked};
+ghost use Rattle.mp_words.specs.Jobs.{IsAsked, IsRate, asked};
 ghost use Rattle.mp_words.specs.Names.{kind_of};
 ghost use Rattle.mp4edit.specs.Names.{NeedAll, NeedsAll, input_names, is_nhnt, names_of, reads};
 ghost use Rattle.mp4edit.specs.Outcome.{add_outcome, folded, input, no_movie, step};
@@ -14,7 +14,7 @@ use crate::input::read_input;
 use crate::stop::{Stop, of_fail};
 use mp_movie::{Movie, files_may_follow, parts_stand_for_movies, same_movie_is_presented};
 use mp_ports::{Bad, Fail, Folder};
-use mp_words::{Command, What};
+use mp_words::{Command, Rate, What};
 use std::alloc::Global;
 use track_ops::{
     Choice, add_tracks, commands_are_seen, delay, remove, set_enabled, set_language,
@@ -70,7 +70,9 @@ fn take_step<F: Folder>(
     let _tracks = movie.tracks();
     let place = command.place;
     match &command.what {
-        What::Add { name, choice, .. } => add_input(alloc, folder, movie, name, *choice, place),
+        What::Add { name, choice, rate } => {
+            add_input(alloc, folder, movie, name, *choice, *rate, place)
+        }
         What::Rem { number } => of_done(remove(movie, *number), place),
         What::Delay { number, ms } => of_failed(delay(alloc, movie, *number, *ms), place),
         What::TrackScale { number, scale } => {
@@ -91,15 +93,17 @@ fn add_input<F: Folder>(
     movie: &mut Movie,
     name: &str,
     choice: Choice,
+    rate: Option<Rate>,
     command: u32,
 ) -> Result<(), Stop>
     requires opened { length (F.state folder.old).opened < 2 ^ 32 - 3 }
+    requires rate { IsRate rate }
     requires told { IfSome (F.state folder.old).held (λ _. AllTold (F.state folder.old)) }
     requires held { Hold (sizes_of (F.state folder.old)) movie.old }
     ensures movie { IfSome (F.state folder.old).held (λ files. Gives (λ _. movie.new) result (F.state folder.new)
-        (add_outcome files command name.now choice (stands_for (told_files (F.state folder.old)) movie.old))) }
+        (add_outcome files command name.now choice rate (stands_for (told_files (F.state folder.old)) movie.old))) }
     ensures scales { IfSome (F.state folder.old).held (λ files.
-        OnOk result (HasMovieScales (input files command name.now))) }
+        OnOk result (HasMovieScales (input files command name.now rate))) }
     ensures held { OnOk result (Hold (sizes_of (F.state folder.new)) movie.new) }
     ensures folder { OpensFiles result (input_names name.now) 3 (is_nhnt (kind_of name.now) ≡ false)
         (F.state folder.old) (F.state folder.new) }
@@ -107,7 +111,7 @@ fn add_input<F: Folder>(
     files_may_follow();
     parts_stand_for_movies();
     same_movie_is_presented();
-    let other = match read_input(alloc, folder, name, command) {
+    let other = match read_input(alloc, folder, name, rate, command) {
         Ok(other) => other,
         Err(stop) => return Err(stop),
     };

@@ -75,7 +75,7 @@ fn is_built(command: &Command) -> bool
     match &command.what {
         What::Add { name, .. } => matches!(
             kind_of(name),
-            Some(FileKind::Mp4 | FileKind::Adts | FileKind::Nhnt)
+            Some(FileKind::Mp4 | FileKind::Avc | FileKind::Adts | FileKind::Nhnt)
         ),
         What::Rem { .. }
         | What::Delay { .. }

@@ -19,7 +19,7 @@ returns-in-Err-read_opened-clause-movie g c =
     let s = g.F.Folder.state c.args.folder.now in
     let t = g.F.Folder.state c.find_for.new.folder in
     let u = g.F.Folder.state c.read_opened.new.folder in
-    rw c.of_read.ensures (fail_gives s t u c.args.name.now c.kind_of.result c.in-Ok.file c.args.command c.in-Err-read_opened.fail c.in-Ok.ensures c.kind_of.ensures c.in-Err-read_opened.ensures.movie)
+    rw c.of_read.ensures (fail_gives s t u c.args.name.now c.args.rate c.kind_of.result c.in-Ok.file c.args.command c.in-Err-read_opened.fail c.in-Ok.ensures c.kind_of.ensures c.in-Err-read_opened.ensures.movie)
 
 pub returns-in-Err-read_opened-clause-folder : goal.returns-in-Err-read_opened-clause-folder
 returns-in-Err-read_opened-clause-folder g c =

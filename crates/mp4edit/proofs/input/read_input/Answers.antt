@@ -8,7 +8,7 @@ use Rattle.mp4edit.proofs.input.read_input.Goals as goal
 pub returns-then-is_nhnt-clause-movie : goal.returns-then-is_nhnt-clause-movie
 returns-then-is_nhnt-clause-movie g c =
     let is : is_nhnt (kind_of c.args.name.now) ≡ true = sym c.if-is_nhnt.ensures in
-    pair_input_gives _ (kind_of c.args.name.now) c.args.name.now c.args.command c.read_pair.result _ is c.read_pair.ensures.movie
+    pair_input_gives _ (kind_of c.args.name.now) c.args.name.now c.args.rate c.args.command c.read_pair.result _ is c.read_pair.ensures.movie
 
 pub returns-then-is_nhnt-clause-folder : goal.returns-then-is_nhnt-clause-folder
 returns-then-is_nhnt-clause-folder g c =
@@ -18,7 +18,7 @@ returns-then-is_nhnt-clause-folder g c =
 pub returns-clause-movie : goal.returns-clause-movie
 returns-clause-movie g c =
     let is : is_nhnt (kind_of c.args.name.now) ≡ false = sym c.if-is_nhnt.ensures in
-    file_input_gives _ (kind_of c.args.name.now) c.args.name.now c.args.command c.read_file.result _ is c.read_file.ensures.movie
+    file_input_gives _ (kind_of c.args.name.now) c.args.name.now c.args.rate c.args.command c.read_file.result _ is c.read_file.ensures.movie
 
 pub returns-clause-folder : goal.returns-clause-folder
 returns-clause-folder g c =

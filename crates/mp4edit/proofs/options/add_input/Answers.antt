@@ -15,8 +15,8 @@ returns-clause-movie g c =
     let all = c.in-Ok.ensures.folder.all in
     let s = g.F.Folder.state c.args.folder.now in
     let t = g.F.Folder.state c.read_input.new.folder in
-    let gives : IfSome s.held (λ files. Gives {A = Unit} (λ _. c.add_tracks.new.movie) (answered c.args.command (Ok c.in-Ok-add_tracks.field-0)) t (add_outcome files c.args.command c.args.name.now c.args.choice (stands_for (told_files s) c.args.movie.now))) =
-    added_gives c.files_may_follow.ensures s t all.files c.args.name.now c.args.command c.args.choice c.in-Ok.other c.args.movie.now c.add_tracks.new.movie (Ok c.in-Ok-add_tracks.field-0)
+    let gives : IfSome s.held (λ files. Gives {A = Unit} (λ _. c.add_tracks.new.movie) (answered c.args.command (Ok c.in-Ok-add_tracks.field-0)) t (add_outcome files c.args.command c.args.name.now c.args.choice c.args.rate (stands_for (told_files s) c.args.movie.now))) =
+    added_gives c.files_may_follow.ensures s t all.files c.args.name.now c.args.rate c.args.command c.args.choice c.in-Ok.other c.args.movie.now c.add_tracks.new.movie (Ok c.in-Ok-add_tracks.field-0)
     all.opened c.requires.told (told_next s.held s t refl c.requires.told c.in-Ok.ensures.folder.told) c.requires.held c.in-Ok.ensures.held c.in-Ok.ensures.movie c.in-Ok-add_tracks.ensures.added in
     search (rules, gives)
 
@@ -24,7 +24,7 @@ pub returns-clause-scales : goal.returns-clause-scales
 returns-clause-scales g c =
     let s = g.F.Folder.state c.args.folder.now in
     let t = g.F.Folder.state c.read_input.new.folder in
-    input_scales c.parts_stand_for_movies.ensures c.same_movie_is_presented.ensures.scales s.held (λ files. input files c.args.command c.args.name.now) t c.in-Ok.other c.tracks-tracks.ensures.whole c.in-Ok.ensures.movie
+    input_scales c.parts_stand_for_movies.ensures c.same_movie_is_presented.ensures.scales s.held (λ files. input files c.args.command c.args.name.now c.args.rate) t c.in-Ok.other c.tracks-tracks.ensures.whole c.in-Ok.ensures.movie
 
 pub returns-clause-held : goal.returns-clause-held
 returns-clause-held g c =
@@ -38,8 +38,8 @@ returns-in-Err-add_tracks-clause-movie g c =
     let all = c.in-Ok.ensures.folder.all in
     let s = g.F.Folder.state c.args.folder.now in
     let t = g.F.Folder.state c.read_input.new.folder in
-    let gives : IfSome s.held (λ files. Gives {A = Unit} (λ _. c.add_tracks.new.movie) (answered c.args.command (Err (c.in-Err-add_tracks.fail, c.in-Err-add_tracks.field-0-1))) t (add_outcome files c.args.command c.args.name.now c.args.choice (stands_for (told_files s) c.args.movie.now))) =
-    added_gives c.files_may_follow.ensures s t all.files c.args.name.now c.args.command c.args.choice c.in-Ok.other c.args.movie.now c.add_tracks.new.movie (Err (c.in-Err-add_tracks.fail, c.in-Err-add_tracks.field-0-1))
+    let gives : IfSome s.held (λ files. Gives {A = Unit} (λ _. c.add_tracks.new.movie) (answered c.args.command (Err (c.in-Err-add_tracks.fail, c.in-Err-add_tracks.field-0-1))) t (add_outcome files c.args.command c.args.name.now c.args.choice c.args.rate (stands_for (told_files s) c.args.movie.now))) =
+    added_gives c.files_may_follow.ensures s t all.files c.args.name.now c.args.rate c.args.command c.args.choice c.in-Ok.other c.args.movie.now c.add_tracks.new.movie (Err (c.in-Err-add_tracks.fail, c.in-Err-add_tracks.field-0-1))
     all.opened c.requires.told (told_next s.held s t refl c.requires.told c.in-Ok.ensures.folder.told) c.requires.held c.in-Ok.ensures.held c.in-Ok.ensures.movie c.in-Err-add_tracks.ensures.added in
     search (rules, gives)
 
