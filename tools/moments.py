@@ -8,11 +8,13 @@ Makes COUNT lines from the random numbers FIRST, FIRST + 1 and so on: the OPTION
 file's own edit lists and tables, track by track, what is shown at 1,000 moments (ISO/IEC 14496-12, 8.6.6): the bytes
 and the entries of samples. Beside it stands what the options say of that moment, by the last one and what was shown
 before it, down to the tables of the inputs; no movie in between is made. Half of the moments lie at or beside a border
-of a segment or a sample. Numbers, handlers and lengths are compared, too, and a line is told beforehand to be refused
-for want of a track (80) or for a delay past the end (82). It ends with status 1 at the first line that differs, or that
-ends otherwise than done or refused, or where no line was written. It shares no code with the program.
+of a segment or a sample. Numbers, handlers and lengths are compared, too. A line that wants a track that isn't there (80),
+delays one past its end (82) or leaves none (95) is told beforehand to be refused at that option; a scale or a limit (83 to
+94) may refuse an earlier one. It ends with status 1 at the first line that differs, or ends otherwise, or where no line
+was written. It shares no code with the program.
 """
 import random
+import re
 import subprocess
 import sys
 import tempfile
@@ -151,8 +153,17 @@ def compare(chance, written, views):
     return compared, shown
 
 
+def is_told(said, code, option):
+    """Whether a refusal is the one that is told, or that of a scale or a limit at an option before it."""
+    refused = re.search(r"refused: (\d+) \w+, command (\d+),", said)
+    if not refused:
+        return False
+    number, command = map(int, refused.groups())
+    return (number, command) == (code, option) or 83 <= number <= 94 and command < option
+
+
 def random_line(chance, options, files):
-    """A line of options, what is seen behind it, and the code with which it must be refused."""
+    """A line of options, what is seen behind it, the code with which it must be refused, and the option that is."""
     views, words = [], []
     for _ in range(chance.randint(1, 8)):
         option = random_option(chance, options, files, views)
@@ -160,8 +171,8 @@ def random_line(chance, options, files):
         try:
             views = behind(views, *option)
         except Refused as refused:
-            return words, views, refused.args[0]
-    return words, views, None if views else 95
+            return words, views, refused.args[0], len(words) // 2
+    return words, views, None if views else 95, len(words) // 2 + 1
 
 
 def main(program, count, first, *rest):
@@ -171,10 +182,10 @@ def main(program, count, first, *rest):
         target = f"{folder}/out.mp4"
         for seed in range(int(first), int(first) + int(count)):
             chance = random.Random(seed)
-            words, views, code = random_line(chance, options, files)
+            words, views, code, option = random_line(chance, options, files)
             ran = subprocess.run([program, *words, "-out", target], capture_output=True, text=True)
             line = f"seed {seed}: {' '.join(words)}"
-            if ran.returncode == 2 and (code is None or f"refused: {code} " in ran.stderr):
+            if ran.returncode == 2 and is_told(ran.stderr, code, option):
                 refused += 1
                 print(f"{line}: {ran.stderr.strip()}")
                 continue
