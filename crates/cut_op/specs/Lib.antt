@@ -1,0 +1,13 @@
+pub mod Needed
+pub mod Track
+pub mod Settled
+pub mod Cut
+pub mod Shows
+pub mod Law
+pub mod Placed
+pub mod Reach
+pub mod Found
+pub mod Items
+pub mod Explicit
+pub mod Between
+pub mod Planned
