@@ -5,6 +5,7 @@ mod dumps;
 mod edits;
 mod endings;
 mod pairs;
+mod pictures;
 mod times;
 
 use crate::{Ending, WordKind, mp4edit};

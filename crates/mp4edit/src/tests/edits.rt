@@ -158,7 +158,7 @@ fn lines_end_as_their_options_come_to(rt: HostRuntime) -> Result<(), Fail> {
         ),
         (
             &["-add", "v.h264", "-out", "c.mp4"],
-            fault(1, WordKind::NotYet),
+            Ending::NoFile { command: 1 },
             0,
         ),
         (
