@@ -8,10 +8,10 @@ Makes COUNT lines from the random numbers FIRST, FIRST + 1 and so on: the OPTION
 file's own edit lists and tables, track by track, what is shown at 1,000 moments (ISO/IEC 14496-12, 8.6.6): the bytes
 and the entries of samples. Beside it stands what the options say of that moment, by the last one and what was shown
 before it, down to the tables of the inputs; no movie in between is made. Half of the moments lie at or beside a border
-of a segment or a sample. Numbers, handlers and lengths are compared, too. A line that wants a track that isn't there (80),
-delays one past its end (82) or leaves none (95) is told beforehand to be refused at that option; a scale or a limit (83 to
-94) may refuse an earlier one. It ends with status 1 at the first line that differs, or ends otherwise, or where no line
-was written. It shares no code with the program.
+of a segment or a sample. Numbers, handlers and lengths are compared, too. A line that wants a track that isn't there
+(80), delays one past its end (82) or leaves none (95) is told beforehand to be refused at that option; a scale or a
+limit (83 to 94) may refuse an earlier one. It ends with status 1 at the first line that differs, or ends otherwise, or
+where no line was written. It shares no code with the program.
 """
 import random
 import re
@@ -63,7 +63,8 @@ def view_of(data, track, movie_scale):
     for duration, start in segments:
         borders += [begin, begin + duration]
         ends = {end for decode, delta, offset, *_ in samples for end in (decode + offset, decode + offset + delta)}
-        borders += [begin + Fraction(end - start, scale) for end in ends if start != -1 and 0 <= end - start < duration * scale]
+        if start != -1:
+            borders += [begin + Fraction(end - start, scale) for end in ends if 0 <= end - start < duration * scale]
         begin += duration
     return View(track["tkhd"][3], track["handler"], begin, show, borders)
 
@@ -190,12 +191,14 @@ def main(program, count, first, *rest):
                 print(f"{line}: {ran.stderr.strip()}")
                 continue
             if ran.returncode or code:
-                sys.exit(f"{line}: status {ran.returncode}, {ran.stderr.strip()}, where the options say {code or 'that it is done'}")
+                said = f"status {ran.returncode}, {ran.stderr.strip()}"
+                sys.exit(f"{line}: {said}, where the options say {code or 'that it is done'}")
             found = compare(chance, views_of(target), views)
             if isinstance(found, str):
                 sys.exit(f"{line}: {found}")
             lines, compared, shown = lines + 1, compared + found[0], shown + found[1]
-    print(f"{lines} lines: {compared} moments of tracks are as the options say, at {shown} something is shown; {refused} lines are refused")
+    print(f"{lines} lines: {compared} moments of tracks are as the options say, at {shown} something is shown; "
+          f"{refused} lines are refused")
     sys.exit(0 if lines else 1)
 
 
