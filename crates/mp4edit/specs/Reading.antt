@@ -86,8 +86,9 @@ abbrev pub HasMovieScales : Outcome → Type 0
 HasMovieScales (Movie movie) = HasScales movie
 HasMovieScales _ = Unit
 
--- what is known of an option that was carried out, beside what it made of the movie: the file that it adds has scales, a delay shows
--- each track later or as before, and a scale that is set has ticks, of tracks with numbers of their own. It is none that isn't built
+-- what is known of an option that was carried out, beside what it made of the movie: the file that it adds has scales, a
+-- delay shows each track later or as before, and a scale that is set has ticks, of tracks with numbers of their own. It is
+-- none that isn't built
 abbrev pub IsCarriedOut : List HeldFile → ℕ → Asked → (movie made : MovieRecord) → Type 0
 IsCarriedOut files command (Adds name choice rate) movie made = HasMovieScales (input files command name rate)
 IsCarriedOut files command (Removes number) movie made = Unit

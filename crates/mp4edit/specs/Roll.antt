@@ -1,5 +1,5 @@
--- What the options of a line say of the tracks of the written file, and of each moment, given the files that are held. No movie that an
--- option makes is looked at.
+-- What the options of a line say of the tracks of the written file, and of each moment, given the files that are held. No
+-- movie that an option makes is looked at.
 use Rattle.std.specs.Prelude.{ℕ, List, [], ◌∷◌, None, IfSome, IsSomeAnd}
 use Rattle.mp_ports.specs.Folder.{FolderState, HeldFile}
 use Rattle.mp_timeline.specs.Movie.{MovieRecord}

@@ -122,7 +122,8 @@ pub record OpensInputs (ending : Ending) (wanted : Wanted) (most : ℕ) (old new
 abbrev pub edit_of : List CommandRecord → OutputRecord → EditRecord
 edit_of commands output = record { commands = commands; out = output.name; out_command = output.command; window = output.window }
 
--- what a job that writes a file opens, creates and says, by its outcome where the folder tells; and what its file shows at each moment
+-- what a job that writes a file opens, creates and says, by its outcome where the folder tells; and what its file shows at
+-- each moment
 pub record EndsEdit (ending : Ending) (edit : EditRecord) (old new : FolderState) (before after : ReportState) : Type 0 where
   pub inputs : OpensInputs ending (reads edit.commands) (3 * length edit.commands) old new
   pub left : Leaves ending edit.out old new
