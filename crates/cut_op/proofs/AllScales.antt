@@ -24,11 +24,12 @@ use Rattle.mp_clip.specs.Clipped.{as_times, starts, unit}
 use Rattle.mp_clip.specs.Shape.{GivesShape, IsShape, least}
 use Rattle.track_ops.specs.Law.{LeastScalesAreFound}
 use Rattle.track_ops.specs.Scales.{settled}
-use Rattle.cut_op.specs.Cut.{all_some, cut_durations, cut_scale, cut_settled, in_movie_scale}
+use Rattle.track_ops.specs.Ticks.{sample_times, track_times}
+use Rattle.track_ops.specs.Told.{all_some, or_empty, told_track}
+use Rattle.cut_op.specs.Cut.{cut_durations, cut_scale, cut_settled, in_movie_scale}
 use Rattle.cut_op.specs.Needed.{first_kept, is_needed, is_sync_sample, kept_samples, through_last}
 use Rattle.cut_op.specs.Planned.{HasScale, NoCut}
-use Rattle.cut_op.specs.Settled.{media_times, sample_times, settled_scale, told_track}
-use Rattle.cut_op.specs.Track.{cut_track, first_decode, late_by, moved_sample, or_empty, track_pieces, track_samples}
+use Rattle.cut_op.specs.Track.{cut_track, first_decode, late_by, moved_sample, track_pieces, track_samples}
 use Rattle.cut_op.proofs.CutScales.{all_joined, all_parted, settles_alike, settles_before, whole_none}
 use Rattle.cut_op.proofs.CutSettles.{samples_have, ticks_have}
 use Rattle.cut_op.proofs.KeptSamples.{slice-map}
@@ -156,7 +157,7 @@ module _ (files : List (List ℕ)) (old : ℕ) (from to : Frac) (some_old : 0 < 
   none_settles found tracks can is = λ head.
       ap (in_movie_scale from to (record { scale = old; head = head; tracks = map (track_for files) tracks })) (found old (flat_map lasts (map (track_for files) tracks)) None some_old (all_have tracks can) is)
 
-  media_none : LeastScalesAreFound → (track : PlacedTrack) → 0 < track.scale → Settles track.scale (as_times (unit track.scale old from to) (starts (track_pieces old from to (track_for files track)))) None → settled_scale track.scale (cut_track old from to (track_for files track)) ≡ None
+  media_none : LeastScalesAreFound → (track : PlacedTrack) → 0 < track.scale → Settles track.scale (as_times (unit track.scale old from to) (starts (track_pieces old from to (track_for files track)))) None → settled track.scale (track_times (cut_track old from to (track_for files track))) ≡ None
   media_none found track some is =
       let tick = old * (from.d * to.d) in
       let segments = track_pieces old from to (track_for files track) in
@@ -169,17 +170,17 @@ module _ (files : List (List ℕ)) (old : ℕ) (from to : Frac) (some_old : 0 < 
       let part = slice_range all low high in
       let cut : Settles track.scale (times_at segments (map (finer_sample tick) part) (tick * track.scale) (first_decode part * tick)) None =
       settles_before track.scale tick some some_tick part segments None (subst (λ (u : ℕ). Settles track.scale (as_times u (starts segments)) None) (sym one_unit) is) in
-      let whole : Settles track.scale (media_times (cut_track old from to (track_for files track))) None =
+      let whole : Settles track.scale (track_times (cut_track old from to (track_for files track))) None =
       subst (λ (samples : List SampleRecord). Settles track.scale (times_at segments samples (unit track.scale old from to) (first_decode samples)) None) (sym kept)
       (subst (λ (n : ℕ). Settles track.scale (times_at segments (map (finer_sample tick) part) (unit track.scale old from to) n) None) (sym (first-finer tick part))
       (subst (λ (u : ℕ). Settles track.scale (times_at segments (map (finer_sample tick) part) u (first_decode part * tick)) None) one_unit cut)) in
-      found track.scale (media_times (cut_track old from to (track_for files track))) None some
+      found track.scale (track_times (cut_track old from to (track_for files track))) None some
       (times_have segments (kept_samples segments (track_samples old from to (track_for files track))) (unit track.scale old from to) (some_unit track.scale some)) whole
     where
       turn : (m p s : ℕ) → m * p * s ≡ m * s * p
       turn m p s = omega arith
 
-  no_track : LeastScalesAreFound → (before behind : List PlacedTrack) (track : PlacedTrack) → settled_scale track.scale (cut_track old from to (track_for files track)) ≡ None → NoCut files old from to (before ++ track ∷ behind)
+  no_track : LeastScalesAreFound → (before behind : List PlacedTrack) (track : PlacedTrack) → settled track.scale (track_times (cut_track old from to (track_for files track))) ≡ None → NoCut files old from to (before ++ track ∷ behind)
   no_track found before behind track none = λ head. by (cut_scale from to (record { scale = old; head = head; tracks = map (track_for files) (before ++ track ∷ behind) })) head
     where
       by : (scale : Option ℕ) (head : MovieHeadRecord) → in_movie_scale from to (record { scale = old; head = head; tracks = map (track_for files) (before ++ track ∷ behind) }) scale ≡ None
@@ -189,7 +190,7 @@ module _ (files : List (List ℕ)) (old : ℕ) (from to : Frac) (some_old : 0 < 
           (ap (map (cut_settled old scale from to)) (map-append (track_for files) before (track ∷ behind))
           ∙ (map-append (cut_settled old scale from to) (map (track_for files) before) (track_for files track ∷ map (track_for files) behind)
           ∙ ap (λ (one : Option TrackRecord). map (cut_settled old scale from to) (map (track_for files) before) ++ one ∷ map (cut_settled old scale from to) (map (track_for files) behind))
-          (ap (option_map (λ (s : ℕ). told_track scale s (cut_track old from to (track_for files track)))) none)))
+          (ap (option_map (λ (s : ℕ). told_track s scale (cut_track old from to (track_for files track)))) none)))
           ∙ ap (option_map (λ (tracks : List TrackRecord). movie_of scale head tracks)) (all_none (map (cut_settled old scale from to) (map (track_for files) before)) (map (cut_settled old scale from to) (map (track_for files) behind)))
 
   -- a scale that a track needs is too great

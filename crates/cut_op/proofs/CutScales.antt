@@ -17,8 +17,9 @@ use Rattle.mp_movie.specs.Settling.{Serves, Settles}
 use Rattle.mp_shown.specs.Law.{finer_sample}
 use Rattle.mp_clip.specs.Clipped.{as_times, starts}
 use Rattle.mp_clip.specs.Shape.{least}
-use Rattle.cut_op.specs.Settled.{sample_times}
-use Rattle.cut_op.specs.Track.{first_decode, moved_sample, or_empty}
+use Rattle.track_ops.specs.Ticks.{sample_times}
+use Rattle.track_ops.specs.Told.{or_empty}
+use Rattle.cut_op.specs.Track.{first_decode, moved_sample}
 use Rattle.cut_op.proofs.Moving.{AllFrom, least-from}
 use Rattle.cut_op.proofs.ToldCuts.{sub_z-times}
 use Rattle.cut_op.proofs.Units.{add-times, sub-times, times_some, times_times}

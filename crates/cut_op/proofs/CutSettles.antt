@@ -15,12 +15,14 @@ use Rattle.mp_clip.specs.declared.shape.ClipShape.{ClipShape}
 use Rattle.mp_clip.specs.Clipped.{as_times, starts, unit}
 use Rattle.mp_clip.specs.Shape.{least}
 use Rattle.track_ops.specs.Law.{LeastScalesAreFound}
+use Rattle.track_ops.specs.Scales.{settled}
+use Rattle.track_ops.specs.Ticks.{sample_times, track_times}
+use Rattle.track_ops.specs.Told.{or_empty, told_track}
 use Rattle.cut_op.specs.declared.plan.TrackPlan.{TrackPlan}
 use Rattle.cut_op.specs.Cut.{cut_settled}
 use Rattle.cut_op.specs.Placed.{first_ticks, placed_cut}
 use Rattle.cut_op.specs.Planned.{HasEdits, IsTrackPlan}
-use Rattle.cut_op.specs.Settled.{media_times, sample_times, settled_scale, told_track}
-use Rattle.cut_op.specs.Track.{cut_track, moved_sample, or_empty}
+use Rattle.cut_op.specs.Track.{cut_track, moved_sample}
 use Rattle.cut_op.proofs.CutScales.{settles_before, times}
 use Rattle.cut_op.proofs.PlannedTracks.{decode_is, kept_is, part, segments, some_w, told_is_placed, unit_is, w}
 
@@ -60,11 +62,11 @@ module _ (files : List (List ℕ)) (movie new_movie : ℕ) (from to : Frac) (tra
       flat_map (sample_times unit) (map (moved_sample (decode * tick) (decode * tick - least (starts pieces))) (map (finer_sample tick) kept))
       ++ as_times unit (starts (or_empty (map (shifted (pos (decode * tick - least (starts pieces)) -ℤ pos (decode * tick))) pieces)))
 
-  times_are : media_times (cut_track movie from to (track_for files track)) ≡ times_at (unit track.scale movie from to) first
+  times_are : track_times (cut_track movie from to (track_for files track)) ≡ times_at (unit track.scale movie from to) first
   unfolding times_at
-  times_are = ap media_times (kept_is files movie new_movie from to track shape plan some_movie some_from some_to some columns planned edits)
+  times_are = ap track_times (kept_is files movie new_movie from to track shape plan some_movie some_from some_to some columns planned edits)
 
-  settles : Settles track.scale (media_times (cut_track movie from to (track_for files track))) (Some plan.scale)
+  settles : Settles track.scale (track_times (cut_track movie from to (track_for files track))) (Some plan.scale)
   unfolding times_at
   settles =
       let before : Settles track.scale (as_times (unit track.scale movie from to) (starts pieces)) (Some plan.scale) =
@@ -77,11 +79,11 @@ module _ (files : List (List ℕ)) (movie new_movie : ℕ) (from to : Frac) (tra
       (subst (λ (u : ℕ). Settles track.scale (times_at u first) (Some plan.scale)) one_unit
       (subst (λ (n : ℕ). Settles track.scale (times_at (tick * track.scale) n) (Some plan.scale)) decode cut))
 
-  pub scale_is : LeastScalesAreFound → settled_scale track.scale (cut_track movie from to (track_for files track)) ≡ Some plan.scale
+  pub scale_is : LeastScalesAreFound → settled track.scale (track_times (cut_track movie from to (track_for files track))) ≡ Some plan.scale
   unfolding times_at
   scale_is found =
       let some_unit : 0 < unit track.scale movie from to = subst (λ (u : ℕ). 0 < u) one_unit (some_product tick track.scale some_tick some) in
-      found track.scale (media_times (cut_track movie from to (track_for files track))) (Some plan.scale) some
+      found track.scale (track_times (cut_track movie from to (track_for files track))) (Some plan.scale) some
       (subst (AllByRecursion (λ time. 0 < time.d)) (sym times_are) (samples_have (unit track.scale movie from to) (map (moved_sample (first * tick) (first * tick - least (starts pieces))) (map (finer_sample tick) kept)) _ some_unit
       (ticks_have (unit track.scale movie from to) (starts (or_empty (map (shifted (pos (first * tick - least (starts pieces)) -ℤ pos (first * tick))) pieces))) some_unit)))
       settles
@@ -93,5 +95,5 @@ module _ (files : List (List ℕ)) (movie new_movie : ℕ) (from to : Frac) (tra
   pub cut_is_placed : LeastScalesAreFound → HasEdits files movie new_movie from to track plan edits
       → cut_settled movie new_movie from to (track_for files track) ≡ Some (track_for files (placed_cut plan.kept.from plan.kept.to plan.scale plan.factor plan.ahead edits track))
   cut_is_placed found has =
-      ap (option_map (λ scale. told_track new_movie scale (cut_track movie from to (track_for files track)))) (scale_is found)
+      ap (option_map (λ scale. told_track scale new_movie (cut_track movie from to (track_for files track)))) (scale_is found)
       ∙ ap Some (told_is_placed files movie new_movie from to track shape plan some_movie some_from some_to some columns planned edits has)

@@ -2,7 +2,6 @@ pub mod Keeping
 pub mod Units
 pub mod Moving
 pub mod Moments
-pub mod Settling
 pub mod Shows
 pub mod Totals
 pub mod Movies

@@ -26,13 +26,13 @@ use Rattle.mp_shown.specs.Fractions.{is_before}
 use Rattle.mp_clip.specs.declared.shape.ClipShape.{ClipShape}
 use Rattle.track_ops.specs.Law.{LeastScalesAreFound}
 use Rattle.track_ops.specs.Limits.{limit, settled_to}
+use Rattle.track_ops.specs.Told.{all_some, or_empty}
 use Rattle.cut_op.specs.declared.limits.Passed.{Passed}
 use Rattle.cut_op.specs.declared.plan.Plan.{Plan}
 use Rattle.cut_op.specs.declared.plan.TrackPlan.{TrackPlan}
-use Rattle.cut_op.specs.Cut.{all_some, cut, cut_codes, cut_movie, cut_scale, cut_settled, in_movie_scale}
+use Rattle.cut_op.specs.Cut.{cut, cut_codes, cut_movie, cut_scale, cut_settled, in_movie_scale}
 use Rattle.cut_op.specs.Placed.{placed_cut}
 use Rattle.cut_op.specs.Planned.{AreFilled, ArePlanned, CanEdit, HasEdits, HasScale, IsFilled, IsPlan, IsTrackPlan, MakePlans, MakesPlan, PlansTrack, any_passed, either_of, first_passed, placed_by, placed_movie, placed_tracks}
-use Rattle.cut_op.specs.Track.{or_empty}
 use Rattle.cut_op.proofs.AllScales.{lasts, multiple_of, scale_found, whole_lasts}
 use Rattle.cut_op.proofs.CutParts.{cut_columns}
 use Rattle.cut_op.proofs.CutScales.{all_parted}

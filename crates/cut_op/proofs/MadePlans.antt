@@ -28,12 +28,13 @@ use Rattle.mp_clip.specs.declared.shape.ClipShape.{ClipShape}
 use Rattle.mp_clip.specs.Clipped.{TellsBack, as_times, starts, unit}
 use Rattle.mp_clip.specs.Shape.{IsShape, least}
 use Rattle.track_ops.specs.Law.{LeastScalesAreFound}
+use Rattle.track_ops.specs.Told.{all_some, or_empty}
 use Rattle.cut_op.specs.declared.limits.Passed.{Passed}
 use Rattle.cut_op.specs.declared.plan.TrackPlan.{TrackPlan}
-use Rattle.cut_op.specs.Cut.{all_some, cut_settled}
+use Rattle.cut_op.specs.Cut.{cut_settled}
 use Rattle.cut_op.specs.Placed.{placed_cut}
 use Rattle.cut_op.specs.Planned.{CanEdit, HasEdits, IsTrackPlan, MakePlans, MakesPlan, any_passed, first_passed, passed_of}
-use Rattle.cut_op.specs.Track.{or_empty, track_pieces}
+use Rattle.cut_op.specs.Track.{track_pieces}
 use Rattle.cut_op.proofs.AllScales.{lasts, multiple_of}
 use Rattle.cut_op.proofs.CutParts.{cut_columns}
 use Rattle.cut_op.proofs.CutScales.{all_parted}

@@ -11,8 +11,9 @@ use Rattle.mp_shown.specs.Segments.{in_unit, pieces}
 use Rattle.mp_shown.specs.Shown.{Seen, media_time, is_at_some, seen}
 use Rattle.mp_shown.specs.Law.{PiecesShow}
 use Rattle.mp_clip.specs.Clipped.{starts}
+use Rattle.track_ops.specs.Told.{or_empty}
 use Rattle.cut_op.specs.Needed.{is_needed, is_sync_sample, first_kept, through_last, kept_samples}
-use Rattle.cut_op.specs.Track.{first_decode, late_by, moved_sample, or_empty}
+use Rattle.cut_op.specs.Track.{first_decode, late_by, moved_sample}
 use Rattle.cut_op.proofs.Keeping.{none_of, front, behind, split, none-kept}
 use Rattle.cut_op.proofs.Units.{le-times, lt-times, pieces-finer, unneeded}
 use Rattle.cut_op.proofs.Moving.{seen_at, seen-moved, seen-never, starts_stay, time-empty, time-moved}

@@ -18,33 +18,37 @@ use Rattle.mp_shown.specs.Segments.{explicit}
 use Rattle.mp_clip.specs.Clipped.{IsRange, unit}
 use Rattle.track_ops.specs.Limits.{limit, settled_to, within_limits}
 use Rattle.track_ops.specs.Scales.{edit_times, is_whole, settled}
-use Rattle.cut_op.specs.Settled.{media_times, settled_scale, told_track}
+use Rattle.track_ops.specs.Ticks.{track_times}
+use Rattle.track_ops.specs.Told.{IsSettled, SettledTimesAreKept, all_some, told_track}
 use Rattle.cut_op.specs.Track.{cut_track}
-use Rattle.cut_op.specs.Cut.{all_some, cut, cut_durations, cut_movie, cut_scale, cut_settled, in_movie_scale}
+use Rattle.cut_op.specs.Cut.{cut, cut_durations, cut_movie, cut_scale, cut_settled, in_movie_scale}
 use Rattle.cut_op.specs.Shows.{MovieShowsRange, ShowsRange}
 use Rattle.cut_op.specs.Law.{CutShowsTheRange}
-use Rattle.cut_op.proofs.Settling.{IsFound, both, settled_is_found, told_has_same_times}
 use Rattle.cut_op.proofs.Shows.{exact_shows, some_unit}
 use Rattle.cut_op.proofs.Totals.{exact_total, without_unit}
+
+both : (a b : Bool) → (a && b) ≡ true → (a ≡ true) × (b ≡ true)
+both true b all = (refl, all)
+both false b all = cc
 
 pos_injective : (a b : ℕ) → pos a ≡ pos b → a ≡ b
 pos_injective a b e = omega (arith, ints, e)
 
 -- a track that was cut, in scales in which its times are whole, shows the range
-track_shows : PiecesShow → ShowsByTimes → (from to : Frac) (movie new_movie : ℕ) (track new : TrackRecord) → IsRange from to → is_before from to ≡ true → 0 < movie → 0 < new_movie → 0 < track.scale
-    → list_all (is_whole new_movie) (cut_durations movie from to track) ≡ true → cut_settled movie new_movie from to track ≡ Some new → ShowsRange from to movie new_movie track new
-track_shows law times from to movie new_movie track new range test some_movie some_new some whole is =
-    by (settled_scale track.scale (cut_track movie from to track)) refl is
+track_shows : PiecesShow → ShowsByTimes → SettledTimesAreKept → (from to : Frac) (movie new_movie : ℕ) (track new : TrackRecord) → IsRange from to → is_before from to ≡ true → 0 < movie → 0 < track.scale
+    → IsSettled (cut_durations movie from to track) new_movie → cut_settled movie new_movie from to track ≡ Some new → ShowsRange from to movie new_movie track new
+track_shows law times settling from to movie new_movie track new range test some_movie some fits_movie is =
+    by (settled track.scale (track_times (cut_track movie from to track))) refl is
   where
-    by : (scale : Option ℕ) → settled_scale track.scale (cut_track movie from to track) ≡ scale
-        → option_map (λ scale. told_track new_movie scale (cut_track movie from to track)) scale ≡ Some new → ShowsRange from to movie new_movie track new
+    by : (scale : Option ℕ) → settled track.scale (track_times (cut_track movie from to track)) ≡ scale
+        → option_map (λ scale. told_track scale new_movie (cut_track movie from to track)) scale ≡ Some new → ShowsRange from to movie new_movie track new
     by None found is = absurd (true≢false (sym (ap is_some is)))
     by (Some scale) found is =
         let exact = cut_track movie from to track in
         let u = unit track.scale movie from to in
         let some_u = some_unit movie track.scale from.d to.d some_movie some range.some_begin.some range.some_end.some in
-        let fits = settled_is_found track.scale (media_times exact) scale some found in
-        let same = times.same u new_movie exact (told_track new_movie scale exact) (told_has_same_times new_movie scale exact some_u fits.some some_new fits.whole whole) in
+        let fits = settling.serves track.scale (track_times exact) scale some found in
+        let same = times.same u new_movie exact (told_track scale new_movie exact) (settling.told scale new_movie exact some_u fits fits_movie) in
         let total_is = pos_injective _ _ same.total.crosswise in
         subst (ShowsRange from to movie new_movie track) (some_injective is) (record {
           number = refl;
@@ -82,16 +86,16 @@ each_some f (track ∷ tracks) news is = by (λ others are. each_some f tracks o
     by all None found is = absurd (true≢false (sym (ap is_some is)))
     by all (Some one) found is = rest all one (all_some (map f tracks)) refl found is
 
-tracks_show : PiecesShow → ShowsByTimes → (from to : Frac) (movie new_movie : ℕ) (tracks news : List TrackRecord) → IsRange from to → is_before from to ≡ true → 0 < movie → 0 < new_movie
-    → AllByRecursion (λ track. 0 < track.scale) tracks → list_all (is_whole new_movie) (flat_map (cut_durations movie from to) tracks) ≡ true
+tracks_show : PiecesShow → ShowsByTimes → SettledTimesAreKept → (from to : Frac) (movie new_movie : ℕ) (tracks news : List TrackRecord) → IsRange from to → is_before from to ≡ true → 0 < movie
+    → AllByRecursion (λ track. 0 < track.scale) tracks → IsSettled (flat_map (cut_durations movie from to) tracks) new_movie
     → AllZip (λ track new. cut_settled movie new_movie from to track ≡ Some new) tracks news → AllZip (ShowsRange from to movie new_movie) tracks news
-tracks_show law times from to movie new_movie [] [] range test some_movie some_new scales whole are = tt
-tracks_show law times from to movie new_movie [] (new ∷ news) range test some_movie some_new scales whole are = absurd are
-tracks_show law times from to movie new_movie (track ∷ tracks) [] range test some_movie some_new scales whole are = absurd are
-tracks_show law times from to movie new_movie (track ∷ tracks) (new ∷ news) range test some_movie some_new scales whole are =
-    let parts = both _ _ (sym (list_all-append (is_whole new_movie) (cut_durations movie from to track) (flat_map (cut_durations movie from to) tracks)) ∙ whole) in (
-      track_shows law times from to movie new_movie track new range test some_movie some_new scales.0 parts.0 are.0,
-      tracks_show law times from to movie new_movie tracks news range test some_movie some_new scales.1 parts.1 are.1,
+tracks_show law times settling from to movie new_movie [] [] range test some_movie scales fits are = tt
+tracks_show law times settling from to movie new_movie [] (new ∷ news) range test some_movie scales fits are = absurd are
+tracks_show law times settling from to movie new_movie (track ∷ tracks) [] range test some_movie scales fits are = absurd are
+tracks_show law times settling from to movie new_movie (track ∷ tracks) (new ∷ news) range test some_movie scales fits are =
+    let parts = both _ _ (sym (list_all-append (is_whole new_movie) (cut_durations movie from to track) (flat_map (cut_durations movie from to) tracks)) ∙ fits.whole) in (
+      track_shows law times settling from to movie new_movie track new range test some_movie scales.0 (record { some = fits.some; whole = parts.0 }) are.0,
+      tracks_show law times settling from to movie new_movie tracks news range test some_movie scales.1 (record { some = fits.some; whole = parts.1 }) are.1,
     )
 
 -- ---- the movie
@@ -104,14 +108,14 @@ abbrev is_ok_movie : Result MovieRecord Code → Bool
 is_ok_movie (Ok movie) = true
 is_ok_movie (Err code) = false
 
-pub cut_shows : PiecesShow → ShowsByTimes → CutShowsTheRange
-cut_shows law times from to movie new range scales is = by_test (is_before from to) refl is
+pub cut_shows : PiecesShow → ShowsByTimes → SettledTimesAreKept → CutShowsTheRange
+cut_shows law times settling from to movie new range scales is = by_test (is_before from to) refl is
   where
     shows : (scale : ℕ) (tracks : List TrackRecord) → is_before from to ≡ true → cut_scale from to movie ≡ Some scale → all_some (map (cut_settled movie.scale scale from to) movie.tracks) ≡ Some tracks
         → MovieShowsRange from to movie (record movie { scale = scale; tracks = tracks })
     shows scale tracks test found are =
-        let fits = settled_is_found movie.scale _ scale scales.whole found in
-        record { head = refl; tracks = tracks_show law times from to movie.scale scale movie.tracks tracks range test scales.whole fits.some scales.tracks fits.whole (each_some (cut_settled movie.scale scale from to) movie.tracks tracks are) }
+        let fits = settling.serves movie.scale _ scale scales.whole found in
+        record { head = refl; tracks = tracks_show law times settling from to movie.scale scale movie.tracks tracks range test scales.whole scales.tracks fits (each_some (cut_settled movie.scale scale from to) movie.tracks tracks are) }
 
     by_limit : (one : MovieRecord) (code : Option Code) → MovieShowsRange from to movie one → unless code one ≡ Ok new → MovieShowsRange from to movie new
     by_limit one None holds is = let same : one ≡ new = ap (from_ok one) is in subst (MovieShowsRange from to movie) same holds

@@ -14,7 +14,8 @@ use Rattle.mp_shown.specs.Segments.{in_unit}
 use Rattle.mp_shown.specs.Shown.{Seen, media_time, is_at, is_at_some, seen}
 use Rattle.mp_clip.specs.Clipped.{starts}
 use Rattle.mp_clip.specs.Shape.{least}
-use Rattle.cut_op.specs.Track.{moved_sample, or_empty}
+use Rattle.track_ops.specs.Told.{or_empty}
+use Rattle.cut_op.specs.Track.{moved_sample}
 use Rattle.cut_op.proofs.Units.{add-times}
 
 -- no start is below a number

@@ -21,12 +21,12 @@ use Rattle.mp_movie.specs.WholeParts.{AreColumns, AreParts, bare_movie, bare_tra
 use Rattle.mp_shown.specs.Fractions.{is_before}
 use Rattle.track_ops.specs.Law.{LeastScalesAreFound}
 use Rattle.track_ops.specs.Limits.{limit, settled_to}
+use Rattle.track_ops.specs.Told.{all_some, or_empty}
 use Rattle.cut_op.specs.declared.plan.Plan.{Plan}
 use Rattle.cut_op.specs.declared.plan.TrackPlan.{TrackPlan}
-use Rattle.cut_op.specs.Cut.{all_some, cut, cut_movie, cut_scale, cut_settled, in_movie_scale}
+use Rattle.cut_op.specs.Cut.{cut, cut_movie, cut_scale, cut_settled, in_movie_scale}
 use Rattle.cut_op.specs.Placed.{kept_pieces}
 use Rattle.cut_op.specs.Planned.{IsPlan, PlansTrack, placed_by, placed_movie, placed_tracks}
-use Rattle.cut_op.specs.Track.{or_empty}
 use Rattle.cut_op.proofs.CutParts.{cut_bare, cut_columns}
 use Rattle.cut_op.proofs.CutSettles.{cut_is_placed}
 use Rattle.cut_op.proofs.SameLimits.{stands_limits}

@@ -14,12 +14,14 @@ use Rattle.mp_shown.specs.Law.{finer_sample}
 use Rattle.mp_clip.specs.declared.shape.ClipShape.{ClipShape}
 use Rattle.mp_clip.specs.Clipped.{TellsBack, starts, unit}
 use Rattle.mp_clip.specs.Shape.{least}
+use Rattle.track_ops.specs.Delay.{told}
+use Rattle.track_ops.specs.Ticks.{sample_in_scale}
+use Rattle.track_ops.specs.Told.{or_empty, told_track}
 use Rattle.cut_op.specs.declared.plan.TrackPlan.{TrackPlan}
 use Rattle.cut_op.specs.Needed.{kept_samples}
 use Rattle.cut_op.specs.Placed.{first_ticks, placed_cut}
 use Rattle.cut_op.specs.Planned.{HasEdits, IsTrackPlan}
-use Rattle.cut_op.specs.Settled.{told_sample, told_segment, told_track}
-use Rattle.cut_op.specs.Track.{cut_track, first_decode, late_by, moved_sample, or_empty, track_pieces, track_samples}
+use Rattle.cut_op.specs.Track.{cut_track, first_decode, late_by, moved_sample, track_pieces, track_samples}
 use Rattle.mp_edits.specs.Segments.{shifted}
 use Rattle.cut_op.proofs.KeptSamples.{kept_are_samples, recast, slice-map, slice-range}
 use Rattle.cut_op.proofs.ToldCuts.{samples_told, segments_told}
@@ -116,27 +118,27 @@ module _ (files : List (List ℕ)) (movie new_movie : ℕ) (from to : Frac) (tra
   ahead_is : first * plan.factor - min (first * plan.factor) shape.least ≡ plan.ahead
   ahead_is = ap (λ (x : ℕ). first * plan.factor - x) back_is ∙ sym planned.ahead
 
-  samples_are : map (told_sample (unit track.scale movie from to) plan.scale) (map (moved_sample (first * w) (first * w - least (starts segments))) (map (finer_sample w) part))
+  samples_are : map (sample_in_scale (unit track.scale movie from to) plan.scale) (map (moved_sample (first * w) (first * w - least (starts segments))) (map (finer_sample w) part))
       ≡ samples_of files (placed_cut plan.kept.from plan.kept.to plan.scale plan.factor plan.ahead edits track)
   samples_are =
       let moved = map (moved_sample (first * w) (first * w - least (starts segments))) (map (finer_sample w) part) in
-      ap (λ (u : ℕ). map (told_sample u plan.scale) moved) (sym unit_is)
-      ∙ (ap (λ (n : ℕ). map (told_sample (w * track.scale) n) moved) planned.factor
+      ap (λ (u : ℕ). map (sample_in_scale u plan.scale) moved) (sym unit_is)
+      ∙ (ap (λ (n : ℕ). map (sample_in_scale (w * track.scale) n) moved) planned.factor
       ∙ (samples_told track.scale w plan.factor first (least (starts segments)) shape.least some some_w least_is part
       ∙ (ap (λ (ahead : ℕ). map (recast first plan.factor ahead) part) ahead_is
       ∙ (recast_alike files track plan.kept.from plan.kept.to plan.factor plan.ahead planned.order
       ∙ sym (kept_are_samples files track plan.kept.from plan.kept.to plan.scale plan.factor plan.ahead edits columns planned.order planned.inside)))))
 
   edits_are : HasEdits files movie new_movie from to track plan edits
-      → map (told_segment (unit track.scale movie from to) plan.scale new_movie) (or_empty (map (shifted (pos (first * w - least (starts segments)) -ℤ pos (first * w))) segments)) ≡ edits
+      → map (told (unit track.scale movie from to) plan.scale new_movie) (or_empty (map (shifted (pos (first * w - least (starts segments)) -ℤ pos (first * w))) segments)) ≡ edits
   edits_are has =
       let moved = or_empty (map (shifted (pos (first * w - least (starts segments)) -ℤ pos (first * w))) segments) in
       let told : TellsBack (w * track.scale) (track.scale * plan.factor) new_movie (min (first * plan.factor) shape.least) segments has.made =
       subst (λ (u : ℕ). TellsBack u (track.scale * plan.factor) new_movie (min (first * plan.factor) shape.least) segments has.made) (sym unit_is)
       (subst (λ (n : ℕ). TellsBack (unit track.scale movie from to) n new_movie (min (first * plan.factor) shape.least) segments has.made) planned.factor
       (subst (λ (back : ℕ). TellsBack (unit track.scale movie from to) plan.scale new_movie back segments has.made) planned.back has.told)) in
-      ap (λ (u : ℕ). map (told_segment u plan.scale new_movie) moved) (sym unit_is)
-      ∙ (ap (λ (n : ℕ). map (told_segment (w * track.scale) n new_movie) moved) planned.factor
+      ap (λ (u : ℕ). map (told u plan.scale new_movie) moved) (sym unit_is)
+      ∙ (ap (λ (n : ℕ). map (told (w * track.scale) n new_movie) moved) planned.factor
       ∙ (segments_told track.scale w plan.factor first (least (starts segments)) shape.least some some_w least_is new_movie segments has.made refl told ∙ sym has.are))
 
   -- what is kept, by the numbers of the plan
@@ -169,9 +171,9 @@ module _ (files : List (List ℕ)) (movie new_movie : ℕ) (from to : Frac) (tra
 
   -- it is what the plan makes
   pub told_is_placed : HasEdits files movie new_movie from to track plan edits
-      → told_track new_movie plan.scale (cut_track movie from to (track_for files track)) ≡ track_for files (placed_cut plan.kept.from plan.kept.to plan.scale plan.factor plan.ahead edits track)
+      → told_track plan.scale new_movie (cut_track movie from to (track_for files track)) ≡ track_for files (placed_cut plan.kept.from plan.kept.to plan.scale plan.factor plan.ahead edits track)
   told_is_placed has =
       let samples = samples_are in
       let segments_path = edits_are has in
-      ap (told_track new_movie plan.scale) kept_is
+      ap (told_track plan.scale new_movie) kept_is
       ∙ (λ i. record { number = track.number; head = track.head; scale = plan.scale; entries = track.entries; samples = samples i; edits = Some (segments_path i) })

@@ -15,8 +15,10 @@ use Rattle.mp_shown.specs.Law.{finer_sample}
 use Rattle.mp_clip.specs.Clipped.{TellsBack, later, starts}
 use Rattle.mp_clip.specs.Shape.{least}
 use Rattle.track_ops.specs.Scales.{in_scale}
-use Rattle.cut_op.specs.Settled.{told_sample, told_segment}
-use Rattle.cut_op.specs.Track.{moved_sample, or_empty}
+use Rattle.track_ops.specs.Delay.{told}
+use Rattle.track_ops.specs.Ticks.{sample_in_scale}
+use Rattle.track_ops.specs.Told.{or_empty}
+use Rattle.cut_op.specs.Track.{moved_sample}
 use Rattle.cut_op.proofs.KeptSamples.{recast}
 use Rattle.cut_op.proofs.Moving.{AllFrom, least-from}
 use Rattle.cut_op.proofs.Units.{add-times, le-times, sub-times, times_times}
@@ -100,7 +102,7 @@ module _ (scale w factor first low least_ticks : ℕ) (some_scale : 0 < scale) (
       turn : (w s f : ℕ) → w * (s * f) ≡ f * (w * s)
       turn w s f = omega arith
 
-  one_told : (sample : SampleRecord) → told_sample unit new_scale (moved_sample (first * w) late (finer_sample w sample)) ≡ recast first factor ahead sample
+  one_told : (sample : SampleRecord) → sample_in_scale unit new_scale (moved_sample (first * w) late (finer_sample w sample)) ≡ recast first factor ahead sample
   one_told sample =
       let decode : in_scale unit new_scale (sample.decode * w - first * w) ≡ (sample.decode - first) * factor = ap (in_scale unit new_scale) (sub-times sample.decode first w) ∙ in_new (sample.decode - first) in
       let dur = in_new sample.dur in
@@ -108,7 +110,7 @@ module _ (scale w factor first low least_ticks : ℕ) (some_scale : 0 < scale) (
       ap (λ (z : ℤ). int_div z (pos unit)) (comp_is sample.comp) ∙ int_quotient ((sample.comp -ℤ pos first) *ℤ pos factor +ℤ pos ahead) unit some_unit in
       λ k. record { bytes = sample.bytes; decode = decode k; dur = dur k; comp = comp k; sync = sample.sync; entry = sample.entry }
 
-  pub samples_told : (samples : List SampleRecord) → map (told_sample unit new_scale) (map (moved_sample (first * w) late) (map (finer_sample w) samples)) ≡ map (recast first factor ahead) samples
+  pub samples_told : (samples : List SampleRecord) → map (sample_in_scale unit new_scale) (map (moved_sample (first * w) late) (map (finer_sample w) samples)) ≡ map (recast first factor ahead) samples
   samples_told [] = refl
   samples_told (sample ∷ samples) = rw (one_told sample, samples_told samples) refl
 
@@ -140,7 +142,7 @@ module _ (scale w factor first low least_ticks : ℕ) (some_scale : 0 < scale) (
       rest = omega arith
 
   one_segment : (movie : ℕ) (piece made : Segment) → AllFrom low (starts (piece ∷ [])) → IsSameSegment unit movie unit new_scale piece (later back made)
-      → told_segment unit new_scale movie (shifted (pos late -ℤ pos (first * w)) piece) ≡ made
+      → told unit new_scale movie (shifted (pos late -ℤ pos (first * w)) piece) ≡ made
   one_segment movie (Empty dur) (Empty made) from is = ap Empty (ap (λ (x : ℕ). x / unit) (pos_same (dur * movie) (made * unit) is.crosswise) ∙ mul-div_cancel made some_unit)
   one_segment movie (Media start dur) (Media at made) from is =
       let begin = start_is start at from.0 (pos_same (start * new_scale) ((at + back) * unit) is.0.crosswise) in
@@ -150,7 +152,7 @@ module _ (scale w factor first low least_ticks : ℕ) (some_scale : 0 < scale) (
   one_segment movie (Media start dur) (Empty made) from is = absurd is
 
   each_segment : (movie : ℕ) (pieces made : List Segment) → AllFrom low (starts pieces) → TellsBack unit new_scale movie back pieces made
-      → map (told_segment unit new_scale movie) (map (shifted (pos late -ℤ pos (first * w))) pieces) ≡ made
+      → map (told unit new_scale movie) (map (shifted (pos late -ℤ pos (first * w))) pieces) ≡ made
   each_segment movie [] [] from told = refl
   each_segment movie [] (one ∷ made) from told = absurd told
   each_segment movie (piece ∷ pieces) [] from told = absurd told
@@ -160,7 +162,7 @@ module _ (scale w factor first low least_ticks : ℕ) (some_scale : 0 < scale) (
       rw (one_segment movie (Media start dur) one (from.0, tt) told.0, each_segment movie pieces made from.1 told.1) refl
 
   pub segments_told : (movie : ℕ) (pieces made : List Segment) → low ≡ least (starts pieces) → TellsBack unit new_scale movie back pieces made
-      → map (told_segment unit new_scale movie) (or_empty (map (shifted (pos late -ℤ pos (first * w))) pieces)) ≡ or_empty made
+      → map (told unit new_scale movie) (or_empty (map (shifted (pos late -ℤ pos (first * w))) pieces)) ≡ or_empty made
   segments_told movie [] [] is told = ap (λ (x : ℕ). Empty x ∷ []) none
     where
       none : in_scale unit movie 0 ≡ 0

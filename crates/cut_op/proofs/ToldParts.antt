@@ -19,10 +19,11 @@ use Rattle.mp_shown.specs.Segments.{in_unit}
 use Rattle.mp_clip.specs.declared.shape.ClipShape.{ClipShape}
 use Rattle.mp_clip.specs.Clipped.{CanClip, CanTell, IsClip, TellsBack, as_times, clipped, starts, unit}
 use Rattle.mp_clip.specs.Shape.{least}
+use Rattle.track_ops.specs.Told.{or_empty}
 use Rattle.cut_op.specs.declared.plan.TrackPlan.{TrackPlan}
 use Rattle.cut_op.specs.Explicit.{shown_edits, shown_scale}
 use Rattle.cut_op.specs.Planned.{CanEdit, HasEdits}
-use Rattle.cut_op.specs.Track.{or_empty, track_pieces}
+use Rattle.cut_op.specs.Track.{track_pieces}
 use Rattle.cut_op.proofs.AllScales.{whole_in_multiple}
 use Rattle.cut_op.proofs.Explicits.{pieces_of_list, same_pieces}
 use Rattle.cut_op.proofs.Moving.{AllFrom, least-from}

@@ -14,8 +14,9 @@ use Rattle.mp_shown.specs.Fractions.{is_before}
 use Rattle.mp_shown.specs.Segments.{explicit, in_unit, pieces}
 use Rattle.mp_shown.specs.Law.{PiecesShow}
 use Rattle.mp_clip.specs.Clipped.{IsRange, unit}
+use Rattle.track_ops.specs.Told.{or_empty}
 use Rattle.cut_op.specs.Needed.{kept_samples}
-use Rattle.cut_op.specs.Track.{cut_track, first_decode, late_by, or_empty, track_pieces, track_samples}
+use Rattle.cut_op.specs.Track.{cut_track, first_decode, late_by, track_pieces, track_samples}
 use Rattle.cut_op.specs.Shows.{length_in}
 use Rattle.cut_op.proofs.Units.{le-times}
 use Rattle.cut_op.proofs.Shows.{natural}

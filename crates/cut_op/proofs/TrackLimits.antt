@@ -14,10 +14,11 @@ use Rattle.mp_movie.specs.StandsFor.{track_for}
 use Rattle.mp_clip.specs.declared.shape.ClipShape.{ClipShape}
 use Rattle.mp_movie.specs.Durations.{greatest}
 use Rattle.mp_clip.specs.Clipped.{starts, unit}
+use Rattle.track_ops.specs.Told.{or_empty}
 use Rattle.cut_op.specs.declared.plan.TrackPlan.{TrackPlan}
 use Rattle.cut_op.specs.Placed.{placed_cut}
 use Rattle.cut_op.specs.Planned.{HasEdits, IsTrackPlan}
-use Rattle.cut_op.specs.Track.{or_empty, track_pieces}
+use Rattle.cut_op.specs.Track.{track_pieces}
 use Rattle.cut_op.proofs.ToldLimits.{tells_late, tells_total}
 use Rattle.cut_op.proofs.Totals.{total-empty}
 

@@ -8,20 +8,15 @@ use Rattle.mp_timeline.specs.Movie.{TrackRecord, MovieRecord}
 use Rattle.mp_shown.specs.Fractions.{is_before}
 use Rattle.track_ops.specs.Scales.{edit_times, settled}
 use Rattle.track_ops.specs.Limits.{settled_to}
+use Rattle.track_ops.specs.Ticks.{track_times}
+use Rattle.track_ops.specs.Told.{all_some, told_track}
 use Rattle.cut_op.specs.Track.{cut_track}
-use Rattle.cut_op.specs.Settled.{settled_scale, told_track}
-
--- what each of these is, where each is something
-abbrev pub all_some : {A : Type 0} → List (Option A) → Option (List A)
-all_some [] = Some []
-all_some (None ∷ options) = None
-all_some (Some item ∷ options) = option_map (λ items. item ∷ items) (all_some options)
 
 -- the track cut to the range, in its least scale, in a movie of scale `new`; none where that is above the greatest scale
 abbrev pub cut_settled : (old new : ℕ) → (from to : Frac) → TrackRecord → Option TrackRecord
 cut_settled old new from to track =
     let exact = cut_track old from to track in
-    option_map (λ scale. told_track new scale exact) (settled_scale track.scale exact)
+    option_map (λ scale. told_track scale new exact) (settled track.scale (track_times exact))
 
 -- the durations of the edits of a track that is cut
 abbrev pub cut_durations : (movie : ℕ) → (from to : Frac) → TrackRecord → List Frac

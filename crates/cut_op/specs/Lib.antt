@@ -1,6 +1,5 @@
 pub mod Needed
 pub mod Track
-pub mod Settled
 pub mod Cut
 pub mod Shows
 pub mod Law

@@ -18,13 +18,14 @@ use Rattle.mp_shown.specs.Law.{finer_sample}
 use Rattle.mp_clip.specs.declared.shape.ClipShape.{ClipShape}
 use Rattle.mp_clip.specs.Clipped.{TellsBack, unit}
 use Rattle.mp_clip.specs.Shape.{IsShape}
+use Rattle.track_ops.specs.Told.{or_empty}
 use Rattle.cut_op.specs.declared.limits.Passed.{Passed}
 use Rattle.cut_op.specs.declared.plan.Plan.{Plan}
 use Rattle.cut_op.specs.declared.plan.TrackPlan.{TrackPlan}
 use Rattle.cut_op.specs.Cut.{cut_durations, cut_movie, cut_scale}
 use Rattle.cut_op.specs.Needed.{kept_samples}
 use Rattle.cut_op.specs.Placed.{FitsOffset, first_ticks, moved_offset, placed_cut}
-use Rattle.cut_op.specs.Track.{or_empty, track_pieces, track_samples}
+use Rattle.cut_op.specs.Track.{track_pieces, track_samples}
 
 -- the samples from one place up to another are those that the pieces need
 pub record IsNeededRange (files : List (List ℕ)) (movie : ℕ) (from to : Frac) (track : PlacedTrack) (low high : ℕ) : Type 0 where

@@ -2,13 +2,13 @@
 use Rattle.std.specs.Prelude.{ℕ, ◌-◌, ◌*◌, pos, ◌+ℤ◌, ◌-ℤ◌, unsigned_abs, List, [], ◌∷◌, map, Some}
 use Rattle.mp_frac.specs.declared.time.Frac.{Frac}
 use Rattle.mp_timeline.specs.declared.segment.Segment.{Segment}
-use Rattle.mp_timeline.specs.declared.segment.Segment.TheVariants.{Empty}
 use Rattle.mp_timeline.specs.Movie.{SampleRecord, TrackRecord}
 use Rattle.mp_edits.specs.Segments.{shifted}
 use Rattle.mp_shown.specs.Segments.{explicit, pieces}
 use Rattle.mp_shown.specs.Law.{finer_sample}
 use Rattle.mp_clip.specs.Clipped.{starts, unit}
 use Rattle.mp_clip.specs.Shape.{least}
+use Rattle.track_ops.specs.Told.{or_empty}
 use Rattle.cut_op.specs.Needed.{kept_samples}
 
 -- the pieces, from one time up to another, of the segments that a track shows, in the unit of which a second has
@@ -33,11 +33,6 @@ late_by segments samples = first_decode samples - least (starts segments)
 -- a sample whose decode time falls by `first`, and whose composition time changes by `late` less `first`
 abbrev pub moved_sample : (first late : ℕ) → SampleRecord → SampleRecord
 moved_sample first late sample = record sample { decode = sample.decode - first; comp = sample.comp +ℤ (pos late -ℤ pos first) }
-
--- the segments, or one of no time where there is none
-abbrev pub or_empty : List Segment → List Segment
-or_empty [] = Empty 0 ∷ []
-or_empty (segment ∷ segments) = segment ∷ segments
 
 -- the track of these samples and segments, decoded from 0 on; starts move with composition times, and none falls below 0
 abbrev pub moved_track : (unit : ℕ) → List Segment → List SampleRecord → TrackRecord → TrackRecord

@@ -12,11 +12,11 @@ ghost use Rattle.mp_movie.specs.PartsFit.{first_limit};
 ghost use Rattle.mp_movie.specs.Placed.{PlacedTrack};
 ghost use Rattle.mp_movie.specs.StandsFor.{Hold, stands_for};
 ghost use Rattle.mp_clip.specs.Clipped.{IsRange};
+ghost use Rattle.track_ops.specs.Told.{or_empty};
 ghost use Rattle.cut_op.specs.Cut.{cut, cut_codes};
 ghost use Rattle.cut_op.specs.Found.{AreKept};
 ghost use Rattle.cut_op.specs.Placed.{first_ticks};
 ghost use Rattle.cut_op.specs.Planned.{AreFilled, ArePlanned, CanEdit, HasEdits, HasScale, IsNeededRange, IsPlan, MakesPlan, NoCut};
-ghost use Rattle.cut_op.specs.Track.{or_empty};
 
 use crate::explicit::{explicit, whole_media};
 use crate::kept::{Kept, kept_range};

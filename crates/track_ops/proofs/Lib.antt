@@ -48,3 +48,4 @@ pub mod SeenCommands
 pub mod SeenScales
 pub mod SeenDelays
 pub mod SeenChanges
+pub mod TimesStay

@@ -59,7 +59,7 @@ abbrev pub but_first : List ℕ → List View → List View
 but_first handler [] = []
 but_first handler (view ∷ views) = if bytes_eq view.handler handler then views else view ∷ but_first handler views
 
--- each with that of the others that is as manieth of its handler
+-- each view, and behind it that one of the others that is the first, the second, .. of its handler, as it is
 abbrev pub with_pairs : Frac → List View → List View → List View
 with_pairs from [] others = []
 with_pairs from (view ∷ views) others =
@@ -82,6 +82,6 @@ joined_behind others views =
     with_pairs (longest views) views others
     ++ map (shown_from (longest views)) (given_numbers (numbers_for (view_numbers views) (view_numbers (without_pair views others))) (without_pair views others))
 
--- those of another movie do
+-- and so the tracks of another movie do
 abbrev pub with_joined : MovieRecord → List View → List View
 with_joined other views = joined_behind (map (view_of other.scale) other.tracks) views

@@ -7,6 +7,7 @@ pub mod Adding
 pub mod Ticks
 pub mod SetScales
 pub mod Delay
+pub mod Told
 pub mod Later
 pub mod Moments
 pub mod CutAndJoined

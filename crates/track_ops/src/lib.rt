@@ -28,6 +28,6 @@ pub use adding::add_tracks;
 pub use chosen::Choice;
 pub use delaying::delay;
 pub use heads::{HeadChange, set_enabled, set_language};
-pub use law::{commands_are_seen, least_scales_are_found};
+pub use law::{commands_are_seen, least_scales_are_found, settled_times_are_kept};
 pub use removal::remove;
 pub use set_scale::{set_movie_scale, set_track_scale};

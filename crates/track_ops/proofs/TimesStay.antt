@@ -1,8 +1,8 @@
 -- A track in ticks of scales in which its times are whole has the same times.
-use Rattle.std.proofs.Common.{◌≡◌, ℕ, zero, suc, ◌+◌, ◌*◌, ◌/◌, ◌%◌, ◌<◌, ◌≤◌, ◌&&◌, Bool, true, false, eqb, List, [], ◌∷◌, ◌++◌, map, Option, Some, None, ℤ, pos, negsuc, neg_ℤ, ◌*ℤ◌, int_div, refl, sym, ap, subst, ◌∙◌, arith, inl, inr}
-use Rattle.std.specs.Prelude.{unsigned_abs, option_map}
+use Rattle.std.proofs.Common.{◌≡◌, ℕ, zero, suc, ◌+◌, ◌*◌, ◌/◌, ◌%◌, ◌<◌, ◌≤◌, Bool, true, false, eqb, List, [], ◌∷◌, map, Option, Some, None, ℤ, pos, negsuc, neg_ℤ, ◌*ℤ◌, int_div, refl, sym, ap, subst, ◌∙◌, arith}
+use Rattle.std.specs.Prelude.{option_map}
 use Rattle.std.specs.List.{AllZip, list_all, flat_map, find, range_with_len}
-use Rattle.std.proofs.Math.Nat.{div-mul_cancel, zero-div}
+use Rattle.std.proofs.Math.Nat.{div-mul_cancel, mul-pos, zero-div}
 use Rattle.std.proofs.Math.IntN.{negsuc-*ℤ-pos}
 use Rattle.std.proofs.lemmas.Nat.Gcd.{dvd_of_mod-eq-zero}
 use Rattle.std.proofs.lemmas.Bool.{eqb-true}
@@ -18,13 +18,11 @@ use Rattle.mp_edits.specs.EditBox.{segments_in}
 use Rattle.mp_edits.specs.Segments.{duration}
 use Rattle.mp_shown.specs.Law.{HasSameTimes}
 use Rattle.mp_clip.specs.Clipped.{as_times, starts}
-use Rattle.track_ops.specs.Scales.{edit_times, in_scale, is_whole, multiples, settled}
-use Rattle.cut_op.specs.Settled.{media_times, sample_times, told_sample, told_segment, told_track}
-use Rattle.cut_op.proofs.Units.{times_some}
-
-pub both : (a b : Bool) → (a && b) ≡ true → (a ≡ true) × (b ≡ true)
-both true b all = (refl, all)
-both false b all = cc
+use Rattle.track_ops.specs.Scales.{edit_times, in_scale, is_whole, settled}
+use Rattle.track_ops.specs.Delay.{told}
+use Rattle.track_ops.specs.Ticks.{sample_in_scale, sample_times, track_times}
+use Rattle.track_ops.specs.Told.{IsSettled, SettledTimesAreKept, told_track}
+use Rattle.track_ops.proofs.LeastScales.{both}
 
 -- ---- ticks
 
@@ -61,7 +59,7 @@ told_comp unit scale (negsuc n) some some_scale whole = record {
 -- ---- samples and segments
 
 samples_told : (unit scale : ℕ) (samples : List SampleRecord) → 0 < unit → 0 < scale → list_all (is_whole scale) (flat_map (sample_times unit) samples) ≡ true
-    → AllZip (IsSameSample unit scale) samples (map (told_sample unit scale) samples)
+    → AllZip (IsSameSample unit scale) samples (map (sample_in_scale unit scale) samples)
 samples_told unit scale [] some some_scale whole = tt
 samples_told unit scale (sample ∷ samples) some some_scale whole =
     let decode = both _ _ whole in
@@ -81,7 +79,7 @@ samples_told unit scale (sample ∷ samples) some some_scale whole =
 segments_told : (unit scale movie : ℕ) (segments : List Segment) → 0 < unit → 0 < scale → 0 < movie
     → list_all (is_whole scale) (as_times unit (starts segments)) ≡ true
     → list_all (is_whole movie) (map (λ segment. in_ticks (pos (duration segment)) unit) segments) ≡ true
-    → AllZip (IsSameSegment unit movie unit scale) segments (map (told_segment unit scale movie) segments)
+    → AllZip (IsSameSegment unit movie unit scale) segments (map (told unit scale movie) segments)
 segments_told unit scale movie [] some some_scale some_movie whole whole_movie = tt
 segments_told unit scale movie (Empty dur ∷ segments) some some_scale some_movie whole whole_movie =
     let here = both _ _ whole_movie in
@@ -95,26 +93,25 @@ segments_told unit scale movie (Media start dur ∷ segments) some some_scale so
 
 -- ---- tracks
 
-pub told_has_same_times : (movie scale : ℕ) (track : TrackRecord) → 0 < track.scale → 0 < scale → 0 < movie
-    → list_all (is_whole scale) (media_times track) ≡ true → list_all (is_whole movie) (edit_times track.scale track) ≡ true
-    → HasSameTimes track.scale movie track (told_track movie scale track)
-told_has_same_times movie scale track some some_scale some_movie whole whole_movie =
-    let parts = both _ _ (sym (list_all-append (is_whole scale) (flat_map (sample_times track.scale) track.samples) (as_times track.scale (starts (segments_in track.edits)))) ∙ whole) in
+told_has_same_times : (media movie : ℕ) (track : TrackRecord) → 0 < track.scale → IsSettled (track_times track) media → IsSettled (edit_times track.scale track) movie
+    → HasSameTimes track.scale movie track (told_track media movie track)
+told_has_same_times media movie track some fits fits_movie =
+    let parts = both _ _ (sym (list_all-append (is_whole media) (flat_map (sample_times track.scale) track.samples) (as_times track.scale (starts (segments_in track.edits)))) ∙ fits.whole) in
     record {
       some_movie = some;
-      some_other_movie = some_movie;
+      some_other_movie = fits_movie.some;
       some_scale = some;
-      some_other_scale = some_scale;
+      some_other_scale = fits.some;
       entries = refl;
-      samples = samples_told track.scale scale track.samples some some_scale parts.0;
-      edits = by track.edits parts.1 whole_movie;
+      samples = samples_told track.scale media track.samples some fits.some parts.0;
+      edits = by track.edits parts.1 fits_movie.whole;
     }
   where
-    by : (edits : Option (List Segment)) → list_all (is_whole scale) (as_times track.scale (starts (segments_in edits))) ≡ true
+    by : (edits : Option (List Segment)) → list_all (is_whole media) (as_times track.scale (starts (segments_in edits))) ≡ true
         → list_all (is_whole movie) (map (λ segment. in_ticks (pos (duration segment)) track.scale) (segments_in edits)) ≡ true
-        → IsSameEdits track.scale movie track.scale scale edits (option_map (map (told_segment track.scale scale movie)) edits)
+        → IsSameEdits track.scale movie track.scale media edits (option_map (map (told track.scale media movie)) edits)
     by None p q = tt
-    by (Some segments) p q = segments_told track.scale scale movie segments some some_scale some_movie p q
+    by (Some segments) p q = segments_told track.scale media movie segments some fits.some fits_movie.some p q
 
 -- ---- the scales that are found
 
@@ -143,12 +140,12 @@ found p f a (suc n) x is = by (p (f a)) refl is (λ here. found p f (a + 1) n x 
         let rest = others (sym further ∙ is) in
         record { place = rest.place; low = omega (arith, rest.low); is = rest.is; passes = rest.passes }
 
--- a scale that was found is above 0, and the times are whole in it
-pub record IsFound (times : List Frac) (scale : ℕ) : Type 0 where
-  pub some : 0 < scale
-  pub whole : list_all (is_whole scale) times ≡ true
-
-pub settled_is_found : (old : ℕ) (times : List Frac) (scale : ℕ) → 0 < old → settled old times ≡ Some scale → IsFound times scale
+settled_is_found : (old : ℕ) (times : List Frac) (scale : ℕ) → 0 < old → settled old times ≡ Some scale → IsSettled times scale
 settled_is_found old times scale some is =
     let p = found (λ (multiple : ℕ). list_all (is_whole multiple) times) (λ (factor : ℕ). old * factor) 1 _ scale is in
-    record { some = subst (λ (x : ℕ). 0 < x) (sym p.is) (times_some old p.place some p.low); whole = p.passes }
+    record { some = subst (λ (x : ℕ). 0 < x) (sym p.is) (mul-pos some p.low); whole = p.passes }
+
+-- ---- the law
+
+pub kept : SettledTimesAreKept
+kept = record { serves = settled_is_found; told = told_has_same_times }
