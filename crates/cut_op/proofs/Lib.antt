@@ -5,6 +5,8 @@ pub mod Moments
 pub mod Shows
 pub mod Totals
 pub mod Movies
+pub mod CutTimes
+pub mod Seen
 pub mod Reaching
 pub mod Finding
 pub mod ItemsInOrder

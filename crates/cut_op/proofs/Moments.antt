@@ -1,5 +1,5 @@
 -- A cut track shows in its time what the track shows in the range, all times being in one unit.
-use Rattle.std.proofs.Common.{◌≡◌, ℕ, ◌+◌, ◌-◌, ◌*◌, ◌<◌, ◌≤◌, Bool, true, false, cond, ltb, List, [], ◌∷◌, ◌++◌, map, filter, take, drop, Option, Some, None, ℤ, pos, ◌-ℤ◌, refl, sym, ap, subst, ◌∙◌, arith, inl, inr}
+use Rattle.std.proofs.Common.{◌≡◌, ℕ, ◌+◌, ◌*◌, ◌<◌, Bool, true, false, cond, ltb, List, [], ◌∷◌, ◌++◌, map, filter, take, drop, Option, Some, None, pos, ◌-ℤ◌, refl, sym, ap, subst, ◌∙◌, inl, inr}
 use Rattle.std.specs.List.{AllByRecursion, list_any}
 use Rattle.std.proofs.lemmas.Bool.{cases_lt, lt-ltb, le-ltb}
 use Rattle.std.proofs.lemmas.List.{append-nil}
@@ -8,14 +8,14 @@ use Rattle.mp_timeline.specs.declared.segment.Segment.{Segment}
 use Rattle.mp_timeline.specs.Movie.{SampleRecord}
 use Rattle.mp_edits.specs.Segments.{shifted}
 use Rattle.mp_shown.specs.Segments.{in_unit, pieces}
-use Rattle.mp_shown.specs.Shown.{Seen, media_time, is_at_some, seen}
+use Rattle.mp_shown.specs.Shown.{media_time, is_at_some, seen}
 use Rattle.mp_shown.specs.Law.{PiecesShow}
 use Rattle.mp_clip.specs.Clipped.{starts}
 use Rattle.track_ops.specs.Told.{or_empty}
 use Rattle.cut_op.specs.Needed.{is_needed, is_sync_sample, first_kept, through_last, kept_samples}
 use Rattle.cut_op.specs.Track.{first_decode, late_by, moved_sample}
 use Rattle.cut_op.proofs.Keeping.{none_of, front, behind, split, none-kept}
-use Rattle.cut_op.proofs.Units.{le-times, lt-times, pieces-finer, unneeded}
+use Rattle.cut_op.proofs.Units.{pieces-finer, unneeded}
 use Rattle.cut_op.proofs.Moving.{seen_at, seen-moved, seen-never, starts_stay, time-empty, time-moved}
 
 -- samples of which the segments need none

@@ -1,23 +1,20 @@
 -- A movie that was cut shows the range of the one that was cut.
-use Rattle.std.proofs.Common.{◌≡◌, ℕ, ◌+◌, ◌*◌, ◌<◌, Bool, true, false, cond, ◌&&◌, List, [], ◌∷◌, ◌++◌, map, Option, Some, None, pos, refl, sym, ap, subst, ◌∙◌, arith, inl, inr, true≢false}
-use Rattle.std.specs.Prelude.{unsigned_abs, option_map, is_some, Result, Ok, Err}
-use Rattle.std.specs.List.{AllByRecursion, AllZip, flat_map, list_all}
+use Rattle.std.proofs.Common.{◌≡◌, ℕ, ◌*◌, ◌<◌, Bool, true, false, cond, ◌&&◌, List, [], ◌∷◌, map, Option, Some, None, pos, refl, sym, ap, subst, ◌∙◌, arith, true≢false}
+use Rattle.std.specs.Prelude.{option_map, is_some, Result, Ok, Err}
+use Rattle.std.specs.List.{AllByRecursion, AllZip, flat_map}
 use Rattle.std.proofs.lemmas.Int.{ints}
 use Rattle.std.proofs.lemmas.List.Folds.{list_all-append}
 use Rattle.mp_frac.specs.declared.time.Frac.{Frac}
-use Rattle.mp_frac.specs.Time.{IsSameTime, in_ticks}
 use Rattle.mp_ports.specs.declared.code.Code.{Code}
 use Rattle.mp_ports.specs.declared.code.Code.TheVariants.{BadRange}
 use Rattle.mp_ports.specs.Checks.{unless}
 use Rattle.mp_timeline.specs.Movie.{TrackRecord, MovieRecord}
 use Rattle.mp_timeline.specs.Same.{HasScales}
-use Rattle.mp_edits.specs.Segments.{total}
 use Rattle.mp_shown.specs.Fractions.{is_before}
-use Rattle.mp_shown.specs.Law.{PiecesShow, ShowsByTimes, ShowsTheSame}
-use Rattle.mp_shown.specs.Segments.{explicit}
+use Rattle.mp_shown.specs.Law.{PiecesShow, ShowsByTimes}
 use Rattle.mp_clip.specs.Clipped.{IsRange, unit}
-use Rattle.track_ops.specs.Limits.{limit, settled_to, within_limits}
-use Rattle.track_ops.specs.Scales.{edit_times, is_whole, settled}
+use Rattle.track_ops.specs.Limits.{limit, settled_to}
+use Rattle.track_ops.specs.Scales.{is_whole, settled}
 use Rattle.track_ops.specs.Ticks.{track_times}
 use Rattle.track_ops.specs.Told.{IsSettled, SettledTimesAreKept, all_some, told_track}
 use Rattle.cut_op.specs.Track.{cut_track}
@@ -31,8 +28,16 @@ both : (a b : Bool) → (a && b) ≡ true → (a ≡ true) × (b ≡ true)
 both true b all = (refl, all)
 both false b all = cc
 
-pos_injective : (a b : ℕ) → pos a ≡ pos b → a ≡ b
+pub pos_injective : (a b : ℕ) → pos a ≡ pos b → a ≡ b
 pos_injective a b e = omega (arith, ints, e)
+
+from_some : TrackRecord → Option TrackRecord → TrackRecord
+from_some other None = other
+from_some other (Some one) = one
+
+some_injective : {a b : TrackRecord} → Some a ≡ Some b → a ≡ b
+unfolding from_some
+some_injective {a} e = ap (from_some a) e
 
 -- a track that was cut, in scales in which its times are whole, shows the range
 track_shows : PiecesShow → ShowsByTimes → SettledTimesAreKept → (from to : Frac) (movie new_movie : ℕ) (track new : TrackRecord) → IsRange from to → is_before from to ≡ true → 0 < movie → 0 < track.scale
@@ -57,17 +62,19 @@ track_shows law times settling from to movie new_movie track new range test some
           shown = λ n d some_d. sym (same.shown n d n d (record { positive = some_d; other_positive = some_d; crosswise = refl })) ∙ exact_shows law times movie track from to n d some_movie some range some_d;
           total = without_unit _ _ u (new_movie * scale) some_u (sym (ap (λ (x : ℕ). x * (new_movie * scale)) (exact_total law movie track from to range test)) ∙ total_is);
         })
-      where
-        from_some : TrackRecord → Option TrackRecord → TrackRecord
-        from_some other None = other
-        from_some other (Some one) = one
 
-        some_injective : {a b : TrackRecord} → Some a ≡ Some b → a ≡ b
-        some_injective {a} e = ap (from_some a) e
+-- the scale of a track that was cut is above 0
+pub some_scale : SettledTimesAreKept → (movie new_movie : ℕ) (from to : Frac) (track new : TrackRecord) → 0 < track.scale → cut_settled movie new_movie from to track ≡ Some new → 0 < new.scale
+some_scale settling movie new_movie from to track new some is = by (settled track.scale (track_times (cut_track movie from to track))) refl is
+  where
+    by : (scale : Option ℕ) → settled track.scale (track_times (cut_track movie from to track)) ≡ scale
+        → option_map (λ scale. told_track scale new_movie (cut_track movie from to track)) scale ≡ Some new → 0 < new.scale
+    by None found is = absurd (true≢false (sym (ap is_some is)))
+    by (Some scale) found is = subst (λ (one : TrackRecord). 0 < one.scale) (some_injective is) (settling.serves track.scale (track_times (cut_track movie from to track)) scale some found).some
 
 -- ---- all tracks
 
-each_some : (f : TrackRecord → Option TrackRecord) (tracks news : List TrackRecord) → all_some (map f tracks) ≡ Some news → AllZip (λ track new. f track ≡ Some new) tracks news
+pub each_some : (f : TrackRecord → Option TrackRecord) (tracks news : List TrackRecord) → all_some (map f tracks) ≡ Some news → AllZip (λ track new. f track ≡ Some new) tracks news
 each_some f [] [] is = tt
 each_some f [] (new ∷ news) is = cc
 each_some f (track ∷ tracks) news is = by (λ others are. each_some f tracks others are) (f track) refl is
@@ -108,30 +115,38 @@ abbrev is_ok_movie : Result MovieRecord Code → Bool
 is_ok_movie (Ok movie) = true
 is_ok_movie (Err code) = false
 
-pub cut_shows : PiecesShow → ShowsByTimes → SettledTimesAreKept → CutShowsTheRange
-cut_shows law times settling from to movie new range scales is = by_test (is_before from to) refl is
+-- what holds of each movie of tracks that are cut so, holds of the one that a cut makes
+pub of_made : (P : MovieRecord → Type 0) (from to : Frac) (movie made : MovieRecord)
+    → ((scale : ℕ) (tracks : List TrackRecord) → is_before from to ≡ true → cut_scale from to movie ≡ Some scale → all_some (map (cut_settled movie.scale scale from to) movie.tracks) ≡ Some tracks
+    → P (record movie { scale = scale; tracks = tracks }))
+    → cut from to movie ≡ Ok made → P made
+of_made P from to movie made holds is = by_test (is_before from to) refl is
   where
-    shows : (scale : ℕ) (tracks : List TrackRecord) → is_before from to ≡ true → cut_scale from to movie ≡ Some scale → all_some (map (cut_settled movie.scale scale from to) movie.tracks) ≡ Some tracks
-        → MovieShowsRange from to movie (record movie { scale = scale; tracks = tracks })
-    shows scale tracks test found are =
-        let fits = settling.serves movie.scale _ scale scales.whole found in
-        record { head = refl; tracks = tracks_show law times settling from to movie.scale scale movie.tracks tracks range test scales.whole scales.tracks fits (each_some (cut_settled movie.scale scale from to) movie.tracks tracks are) }
-
-    by_limit : (one : MovieRecord) (code : Option Code) → MovieShowsRange from to movie one → unless code one ≡ Ok new → MovieShowsRange from to movie new
-    by_limit one None holds is = let same : one ≡ new = ap (from_ok one) is in subst (MovieShowsRange from to movie) same holds
-    by_limit one (Some code) holds is = absurd (true≢false (sym (ap is_ok_movie is)))
+    by_limit : (one : MovieRecord) (code : Option Code) → P one → unless code one ≡ Ok made → P made
+    by_limit one None so is = let same : one ≡ made = ap (from_ok one) is in subst P same so
+    by_limit one (Some code) so is = absurd (true≢false (sym (ap is_ok_movie is)))
 
     by_tracks : (scale : ℕ) (tracks : Option (List TrackRecord)) → is_before from to ≡ true → cut_scale from to movie ≡ Some scale → all_some (map (cut_settled movie.scale scale from to) movie.tracks) ≡ tracks
-        → settled_to (λ settled. settled) (option_map (λ tracks. record movie { scale = scale; tracks = tracks }) tracks) ≡ Ok new → MovieShowsRange from to movie new
+        → settled_to (λ settled. settled) (option_map (λ tracks. record movie { scale = scale; tracks = tracks }) tracks) ≡ Ok made → P made
     by_tracks scale None test found are is = absurd (true≢false (sym (ap is_ok_movie is)))
     by_tracks scale (Some tracks) test found are is =
         let one = record movie { scale = scale; tracks = tracks } in
-        by_limit one (limit one) (shows scale tracks test found are) is
+        by_limit one (limit one) (holds scale tracks test found are) is
 
-    by_scale : (scale : Option ℕ) → is_before from to ≡ true → cut_scale from to movie ≡ scale → settled_to (λ settled. settled) (in_movie_scale from to movie scale) ≡ Ok new → MovieShowsRange from to movie new
+    by_scale : (scale : Option ℕ) → is_before from to ≡ true → cut_scale from to movie ≡ scale → settled_to (λ settled. settled) (in_movie_scale from to movie scale) ≡ Ok made → P made
     by_scale None test found is = absurd (true≢false (sym (ap is_ok_movie is)))
     by_scale (Some scale) test found is = by_tracks scale (all_some (map (cut_settled movie.scale scale from to) movie.tracks)) test found refl is
 
-    by_test : (b : Bool) → is_before from to ≡ b → cond b (settled_to (λ settled. settled) (cut_movie from to movie)) (Err BadRange) ≡ Ok new → MovieShowsRange from to movie new
+    by_test : (b : Bool) → is_before from to ≡ b → cond b (settled_to (λ settled. settled) (cut_movie from to movie)) (Err BadRange) ≡ Ok made → P made
     by_test true test is = by_scale (cut_scale from to movie) test refl is
     by_test false test is = absurd (true≢false (sym (ap is_ok_movie is)))
+
+pub made_shows : PiecesShow → ShowsByTimes → SettledTimesAreKept → (from to : Frac) (movie : MovieRecord) → IsRange from to → HasScales movie → (scale : ℕ) (tracks : List TrackRecord) → is_before from to ≡ true
+    → cut_scale from to movie ≡ Some scale → all_some (map (cut_settled movie.scale scale from to) movie.tracks) ≡ Some tracks → MovieShowsRange from to movie (record movie { scale = scale; tracks = tracks })
+made_shows law times settling from to movie range scales scale tracks test found are =
+    let fits = settling.serves movie.scale _ scale scales.whole found in
+    record { head = refl; tracks = tracks_show law times settling from to movie.scale scale movie.tracks tracks range test scales.whole scales.tracks fits (each_some (cut_settled movie.scale scale from to) movie.tracks tracks are) }
+
+pub cut_shows : PiecesShow → ShowsByTimes → SettledTimesAreKept → CutShowsTheRange
+cut_shows law times settling from to movie made range scales is =
+    of_made (MovieShowsRange from to movie) from to movie made (λ scale tracks test found are. made_shows law times settling from to movie range scales scale tracks test found are) is

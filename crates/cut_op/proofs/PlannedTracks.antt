@@ -133,13 +133,13 @@ module _ (files : List (List ℕ)) (movie new_movie : ℕ) (from to : Frac) (tra
       → map (told (unit track.scale movie from to) plan.scale new_movie) (or_empty (map (shifted (pos (first * w - least (starts segments)) -ℤ pos (first * w))) segments)) ≡ edits
   edits_are has =
       let moved = or_empty (map (shifted (pos (first * w - least (starts segments)) -ℤ pos (first * w))) segments) in
-      let told : TellsBack (w * track.scale) (track.scale * plan.factor) new_movie (min (first * plan.factor) shape.least) segments has.made =
+      let told_back : TellsBack (w * track.scale) (track.scale * plan.factor) new_movie (min (first * plan.factor) shape.least) segments has.made =
       subst (λ (u : ℕ). TellsBack u (track.scale * plan.factor) new_movie (min (first * plan.factor) shape.least) segments has.made) (sym unit_is)
       (subst (λ (n : ℕ). TellsBack (unit track.scale movie from to) n new_movie (min (first * plan.factor) shape.least) segments has.made) planned.factor
       (subst (λ (back : ℕ). TellsBack (unit track.scale movie from to) plan.scale new_movie back segments has.made) planned.back has.told)) in
       ap (λ (u : ℕ). map (told u plan.scale new_movie) moved) (sym unit_is)
       ∙ (ap (λ (n : ℕ). map (told (w * track.scale) n new_movie) moved) planned.factor
-      ∙ (segments_told track.scale w plan.factor first (least (starts segments)) shape.least some some_w least_is new_movie segments has.made refl told ∙ sym has.are))
+      ∙ (segments_told track.scale w plan.factor first (least (starts segments)) shape.least some some_w least_is new_movie segments has.made refl told_back ∙ sym has.are))
 
   -- what is kept, by the numbers of the plan
   pub kept_is : cut_track movie from to (track_for files track)

@@ -1,13 +1,9 @@
 -- A track that is cut, in its unit, shows what the track shows in the range.
-use Rattle.std.proofs.Common.{◌≡◌, ℕ, ◌+◌, ◌-◌, ◌*◌, ◌<◌, ◌≤◌, min, ◌&&◌, Bool, true, false, cond, ltb, List, [], ◌∷◌, ◌++◌, map, filter, Option, Some, None, ℤ, pos, ◌+ℤ◌, ◌-ℤ◌, ◌*ℤ◌, ◌≤ℤ◌, refl, sym, ap, subst, ◌∙◌, arith, inl, inr}
-use Rattle.std.specs.Prelude.{int_lt, unsigned_abs, option_map, Result, Ok, Err}
-use Rattle.std.specs.List.{AllByRecursion, AllZip, flat_map, list_all}
-use Rattle.std.proofs.lemmas.Bool.{cases_lt, lt-ltb, le-ltb}
+use Rattle.std.proofs.Common.{◌≡◌, ℕ, ◌+◌, ◌*◌, ◌<◌, Bool, true, false, cond, ltb, List, [], ◌∷◌, map, filter, Option, Some, None, ℤ, pos, ◌+ℤ◌, ◌*ℤ◌, ◌≤ℤ◌, refl, sym, ap, ◌∙◌, arith}
+use Rattle.std.specs.Prelude.{int_lt, unsigned_abs}
 use Rattle.std.proofs.lemmas.Int.{ints}
-use Rattle.std.proofs.lemmas.List.Folds.{list_all-append}
 use Rattle.mp_frac.specs.declared.time.Frac.{Frac}
-use Rattle.mp_frac.specs.Time.{in_ticks}
-use Rattle.mp_timeline.specs.Movie.{SampleRecord, TrackRecord, MovieRecord}
+use Rattle.mp_timeline.specs.Movie.{SampleRecord, TrackRecord}
 use Rattle.mp_movie.specs.Durations.{extent}
 use Rattle.mp_shown.specs.Fractions.{is_before}
 use Rattle.mp_shown.specs.Segments.{explicit, segments_of, pieces, in_unit}
@@ -15,7 +11,7 @@ use Rattle.mp_shown.specs.Shown.{Seen, media_time, is_at_some, seen, shown}
 use Rattle.mp_shown.specs.Law.{PiecesShow, ShowsByTimes, finer_sample}
 use Rattle.mp_clip.specs.Clipped.{IsRange, unit}
 use Rattle.cut_op.specs.Needed.{kept_samples}
-use Rattle.cut_op.specs.Track.{cut_track, track_pieces, track_samples}
+use Rattle.cut_op.specs.Track.{cut_track, track_samples}
 use Rattle.cut_op.specs.Shows.{behind}
 use Rattle.cut_op.proofs.Units.{add-times, ltb-times, segments_of-finer, times_some, times_times}
 use Rattle.cut_op.proofs.Moving.{seen_at}

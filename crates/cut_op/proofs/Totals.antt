@@ -1,9 +1,8 @@
 -- How long a cut track lasts.
-use Rattle.std.proofs.Common.{◌≡◌, ℕ, ◌+◌, ◌-◌, ◌*◌, ◌<◌, ◌≤◌, min, Bool, true, false, ltb, List, [], ◌∷◌, map, ℤ, pos, ◌-ℤ◌, ◌*ℤ◌, ◌≤ℤ◌, refl, sym, ap, ◌∙◌, arith, inl, inr, true≢false}
+use Rattle.std.proofs.Common.{◌≡◌, ℕ, ◌+◌, ◌-◌, ◌*◌, ◌<◌, ◌≤◌, min, true, ltb, List, [], ◌∷◌, map, ℤ, pos, ◌-ℤ◌, ◌*ℤ◌, refl, sym, ap, ◌∙◌, arith, inl, inr, true≢false}
 use Rattle.std.specs.Prelude.{int_lt, unsigned_abs}
 use Rattle.std.proofs.Math.Nat.{mul_assoc, add-mul, eq_of_mul-eq-mul_right}
-use Rattle.std.proofs.lemmas.Bool.{cases_lt, lt-ltb, le-ltb}
-use Rattle.std.proofs.lemmas.Int.{ints}
+use Rattle.std.proofs.lemmas.Bool.{cases_lt, le-ltb}
 use Rattle.std.proofs.lemmas.List.Sums.{sum_by-cons}
 use Rattle.mp_frac.specs.declared.time.Frac.{Frac}
 use Rattle.mp_timeline.specs.declared.segment.Segment.{Segment}
@@ -11,7 +10,7 @@ use Rattle.mp_timeline.specs.declared.segment.Segment.TheVariants.{Empty, Media}
 use Rattle.mp_timeline.specs.Movie.{TrackRecord}
 use Rattle.mp_edits.specs.Segments.{duration, shifted, total}
 use Rattle.mp_shown.specs.Fractions.{is_before}
-use Rattle.mp_shown.specs.Segments.{explicit, in_unit, pieces}
+use Rattle.mp_shown.specs.Segments.{explicit, in_unit}
 use Rattle.mp_shown.specs.Law.{PiecesShow}
 use Rattle.mp_clip.specs.Clipped.{IsRange, unit}
 use Rattle.track_ops.specs.Told.{or_empty}

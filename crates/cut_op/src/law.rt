@@ -1,6 +1,6 @@
-//! The law of cuts: a call that does nothing, whose contract is the law.
+//! The laws of cuts: calls that do nothing, whose contracts are the laws.
 
-ghost use Rattle.cut_op.specs.Law.{CutShowsTheRange};
+ghost use Rattle.cut_op.specs.Law.{CutShowsTheRange, CutsAreSeen};
 
 use mp_shown::{pieces_show, times_decide_what_is_shown};
 use track_ops::settled_times_are_kept;
@@ -9,6 +9,15 @@ use track_ops::settled_times_are_kept;
 /// nothing behind it.
 pub fn cut_shows_the_range()
     ensures { CutShowsTheRange }
+{
+    pieces_show();
+    times_decide_what_is_shown();
+    settled_times_are_kept();
+}
+
+/// Where it is known how tracks are seen, a movie that was cut is seen at every moment as the cut says by that.
+pub fn cuts_are_seen()
+    ensures { CutsAreSeen }
 {
     pieces_show();
     times_decide_what_is_shown();

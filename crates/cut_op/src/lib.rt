@@ -20,4 +20,4 @@ mod shape;
 mod tests;
 
 pub use cutting::cut;
-pub use law::cut_shows_the_range;
+pub use law::{cut_shows_the_range, cuts_are_seen};
