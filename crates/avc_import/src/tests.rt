@@ -5,7 +5,10 @@ ghost use Rattle.std.specs.Prelude.{◌≡◌, [], IfOk, IfSome};
 ghost use Rattle.avc_import.specs.Movie.{IsRate};
 
 mod faults;
+mod stream;
 mod times;
+mod too_many;
+mod whole;
 
 use super::*;
 use mp_columns::{Col, Column};

@@ -1,4 +1,5 @@
-// Lines that read streams of H.264, over files in memory. The streams and what they come to are laid out by hand.
+// Lines that read streams of H.264, over files in memory. The streams and what they come to are laid
+// out by hand.
 use super::FRAME;
 use super::pairs::{refused, run};
 use crate::Ending;
@@ -7,7 +8,8 @@ use std::alloc::Global;
 use std::process::Abort;
 use std::test::Fail;
 
-// A sequence parameter set of pictures of 16 by 16 with counts of type 2, a picture parameter set, an IDR picture at 18.
+// A sequence parameter set of pictures of 16 by 16 with counts of type 2, a picture parameter set, an
+// IDR picture at 18.
 const ONE: &[u8] = b"\x00\x00\x00\x01\x67\x42\x00\x0a\xda\x79\x00\x00\x00\x01\x68\xce\x38\x80\
     \x00\x00\x01\x65\x88\x84\x80";
 
@@ -74,6 +76,37 @@ fn pictures_are_shown_in_the_order_of_their_counts(rt: HostRuntime) -> Result<()
           edit media 1 160\n\
           sample 1 size 8 decode 0 duration 1 composition 1 sync entry 1\n\
           sample 2 size 8 decode 1 duration 1 composition 4 plain entry 1\n\
+          sample 3 size 8 decode 2 duration 1 composition 2 plain entry 1\n\
+          sample 4 size 8 decode 3 duration 1 composition 3 plain entry 1\n"
+            .as_slice()
+    );
+    Ok(())
+}
+
+// Counts of type 0, whose low parts have four bits: 0, 7, 14 and 1, which is 17.
+const TURNED: &[u8] = b"\x00\x00\x00\x01\x67\x42\x00\x0a\xf4\xf2\x00\x00\x00\x01\x68\xce\x38\x80\
+    \x00\x00\x01\x65\x88\x84\x08\x00\x00\x01\x41\x9a\x2e\x20\
+    \x00\x00\x01\x41\x9a\x5c\x20\x00\x00\x01\x41\x9a\x62\x20";
+
+#[test]
+fn counts_go_on_where_their_low_parts_turn(rt: HostRuntime) -> Result<(), Fail> {
+    let alloc = rt.alloc();
+    let line = ["-add", "v.h264", "-out", "o.mp4"];
+    let got = run(alloc, &line, &[("v.h264", TURNED)], &[])?;
+    assert_eq!(rt; got.ending, Ending::Done);
+    let told = run(
+        alloc,
+        &["-timeline", "o.mp4"],
+        &[("o.mp4", &got.written)],
+        &[],
+    )?;
+    assert_eq!(rt;
+        told.said.as_slice(),
+        b"movie scale 1000 duration 160 tracks 1\n\
+          track 1 handler vide entry avc1 scale 25 samples 4 sync 1 bytes 32 \
+          duration 4 language und enabled edits none\n\
+          sample 1 size 8 decode 0 duration 1 composition 0 sync entry 1\n\
+          sample 2 size 8 decode 1 duration 1 composition 1 plain entry 1\n\
           sample 3 size 8 decode 2 duration 1 composition 2 plain entry 1\n\
           sample 4 size 8 decode 3 duration 1 composition 3 plain entry 1\n"
             .as_slice()
