@@ -4,14 +4,14 @@
 python3 tools/moments.py PROGRAM COUNT FIRST OPTION.. -- FILE..
 
 Makes COUNT lines from the random numbers FIRST, FIRST + 1 and so on: the OPTIONs that are named (of -add -rem -lang
--enable -disable -delay -tscale -mscale), over the MP4 FILEs. Of each file that the program writes it finds by the
-file's own edit lists and tables, track by track, what is shown at 1,000 moments (ISO/IEC 14496-12, 8.6.6): the bytes
-and the entries of samples. Beside it stands what the options say of that moment, by the last one and what was shown
-before it, down to the tables of the inputs; no movie in between is made. Half of the moments lie at or beside a border
-of a segment or a sample. Numbers, handlers and lengths are compared, too. A line that wants a track that isn't there
-(80), delays one past its end (82) or leaves none (95) is told beforehand to be refused at that option; a scale or a
-limit (83 to 94) may refuse an earlier one. It ends with status 1 at the first line that differs, or ends otherwise, or
-where no line was written. It shares no code with the program.
+-enable -disable -delay -split-chunk -tscale -mscale), over the MP4 FILEs. Of each file that the program writes it finds
+by the file's own edit lists and tables, track by track, what is shown at 1,000 moments (ISO/IEC 14496-12, 8.6.6): the
+bytes and the entries of samples. Beside it stands what the options say of that moment, by the last one and what was
+shown before it, down to the tables of the inputs; no movie in between is made. Half of the moments lie at or beside a
+border of a segment or a sample. Numbers, handlers and lengths are compared, too. A line that wants a track that isn't
+there (80), cuts to no time (81), delays a track past its end (82) or leaves none (95) is told beforehand to be refused
+at that option; a scale or a limit (83 to 94) may refuse an earlier one. It ends with status 1 at the first line that
+differs, or ends otherwise, or where no line was written. It shares no code with the program.
 """
 import random
 import re
@@ -94,6 +94,12 @@ def delayed(view, delay):
                 lambda moment: [] if moment < delay else before(moment - delay))
 
 
+def cut(view, begin, end):
+    before, length = view.show, max(Fraction(0), min(view.length, end) - begin)
+    return View(view.number, view.handler, length,
+                lambda moment: before(begin + moment) if begin + moment < end else [])
+
+
 def behind(views, option, argument):
     """What is seen behind an option, from what was seen before it."""
     if option == "-add":
@@ -105,6 +111,11 @@ def behind(views, option, argument):
         return added(views, chosen)
     if option == "-mscale":
         return views
+    if option == "-split-chunk":
+        begin, end = map(Fraction, argument.split(":"))
+        if begin >= end:
+            raise Refused(81)
+        return [cut(view, begin, end) for view in views]
     number, _, rest = argument.partition("=")
     if int(number) not in [view.number for view in views]:
         raise Refused(80)
@@ -113,6 +124,17 @@ def behind(views, option, argument):
     if option == "-delay":
         return [delayed(v, Fraction(int(rest), 1000)) if v.number == int(number) else v for v in views]
     return views
+
+
+def random_range(chance, views):
+    """Two times, most often within what is shown, with 0 to 9 decimal places."""
+    longest = max([view.length for view in views] + [Fraction(1)])
+    places = chance.choice([0, 1, 2, 3, 3, 6, 9])
+    times = [int(longest * chance.random() * chance.choice([1, 1, 1.2]) * 10 ** places) for _ in range(2)]
+    times = times if chance.randint(1, 20) == 1 else sorted(times)
+    whole = [f"{time // 10 ** places}" for time in times]
+    behind_point = [f".{time % 10 ** places:0{places}}" if places else "" for time in times]
+    return ":".join(map("".join, zip(whole, behind_point)))
 
 
 def random_option(chance, options, files, views):
@@ -124,7 +146,8 @@ def random_option(chance, options, files, views):
     argument = {
         "-add": chance.choice(files) + chance.choice(["", "", "#video", "#audio", "#1", "#2"]),
         "-rem": str(number), "-enable": str(number), "-disable": str(number), "-lang": f"{number}=deu",
-        "-delay": f"{number}={delay}", "-tscale": f"{number}={scale}", "-mscale": str(scale)}[option]
+        "-delay": f"{number}={delay}", "-tscale": f"{number}={scale}", "-mscale": str(scale),
+        "-split-chunk": random_range(chance, views)}[option]
     return option, argument
 
 

@@ -24,6 +24,8 @@ use Rattle.track_ops.specs.Numbers.{numbers_of}
 use Rattle.track_ops.specs.SeenLaw.{CommandsAreSeen, ShowDelayed}
 use Rattle.track_ops.specs.SetScales.{set_movie_scale, set_track_scale}
 use Rattle.track_ops.specs.Tracks.{change_head, remove}
+use Rattle.cut_op.specs.Cut.{cut}
+use Rattle.cut_op.specs.Law.{CutsAreSeen}
 use Rattle.mp_words.specs.Jobs.{Asked, Adds, Joins, Removes, Delays, Cuts, ScalesTrack, ScalesMovie, SetsLanguage, Enables, CommandRecord}
 use Rattle.mp4edit.specs.declared.stop.Stop.{Stop}
 use Rattle.mp4edit.specs.Outcome.{Outcome, Absent, Movie, Refusal, and_then, applied, input, step}
@@ -42,36 +44,36 @@ applied_is command (Ok movie) made is = cc
 applied_is command (Err code) made is = cc
 
 -- what an option makes of a movie is seen as the option says
-step_seen : CommandsAreSeen → (files : List HeldFile) (command : ℕ) (what : Asked) (movie made : MovieRecord) (views : List View) → step files command what movie ≡ Movie made → IsCarriedOut files command what movie made
+step_seen : CommandsAreSeen → CutsAreSeen → (files : List HeldFile) (command : ℕ) (what : Asked) (movie made : MovieRecord) (views : List View) → step files command what movie ≡ Movie made → IsCarriedOut files command what movie made
     → AreSeenAs movie views → AreSeenAs made (seen_behind files command what views)
-step_seen law files command (Adds name choice rate) movie made views is scales seen = by (input files command name rate) is scales
+step_seen law cuts files command (Adds name choice rate) movie made views is scales seen = by (input files command name rate) is scales
   where
     by : (found : Outcome) → and_then found (λ other. applied command (add choice other movie)) ≡ Movie made → HasMovieScales found → AreSeenAs made (with_input found (with_added choice) views)
     by (Movie other) is scales = law.add choice other movie made views scales (applied_is command (add choice other movie) made is) seen
     by (Refusal bad) is scales = cc
     by (Absent number) is scales = cc
-step_seen law files command (Removes number) movie made views is scales seen = law.remove number movie made views (applied_is command (remove number movie) made is) seen
-step_seen law files command (SetsLanguage number letters) movie made views is scales seen =
+step_seen law cuts files command (Removes number) movie made views is scales seen = law.remove number movie made views (applied_is command (remove number movie) made is) seen
+step_seen law cuts files command (SetsLanguage number letters) movie made views is scales seen =
     law.head number (Language (language_of letters)) movie made views (applied_is command (change_head number (Language (language_of letters)) movie) made is) seen
-step_seen law files command (Enables number on) movie made views is scales seen = law.head number (Enabled on) movie made views (applied_is command (change_head number (Enabled on) movie) made is) seen
-step_seen law files command (Delays number ms) movie made views is shows seen = law.delay number ms movie made views (applied_is command (delay number ms movie) made is) shows seen
-step_seen law files command (ScalesTrack number scale) movie made views is known seen =
+step_seen law cuts files command (Enables number on) movie made views is scales seen = law.head number (Enabled on) movie made views (applied_is command (change_head number (Enabled on) movie) made is) seen
+step_seen law cuts files command (Delays number ms) movie made views is shows seen = law.delay number ms movie made views (applied_is command (delay number ms movie) made is) shows seen
+step_seen law cuts files command (ScalesTrack number scale) movie made views is known seen =
     law.track_scale number scale movie made views known.0 known.1 (applied_is command (set_track_scale number scale movie) made is) seen
-step_seen law files command (ScalesMovie scale) movie made views is some seen = law.movie_scale scale movie made views some (applied_is command (set_movie_scale scale movie) made is) seen
-step_seen law files command (Joins name) movie made views is done seen = absurd done
-step_seen law files command (Cuts from to) movie made views is done seen = absurd done
+step_seen law cuts files command (ScalesMovie scale) movie made views is some seen = law.movie_scale scale movie made views some (applied_is command (set_movie_scale scale movie) made is) seen
+step_seen law cuts files command (Joins name) movie made views is done seen = absurd done
+step_seen law cuts files command (Cuts from to) movie made views is known seen = cuts from to movie made views known.0 known.1 (applied_is command (cut from to movie) made is) seen
 
 -- an option is done, and those behind it are left
-pub rolls_on : CommandsAreSeen → (commands : List CommandRecord) (done : ℕ) (command : CommandRecord) (movie next : PlacedMovie) (held : Option (List HeldFile)) (s t : FolderState)
+pub rolls_on : CommandsAreSeen → CutsAreSeen → (commands : List CommandRecord) (done : ℕ) (command : CommandRecord) (movie next : PlacedMovie) (held : Option (List HeldFile)) (s t : FolderState)
     → drop done commands ≡ command ∷ drop (done + 1) commands
     → IfSome held (λ files. RollsTo files commands done (stands_for (told_files s) movie))
     → IfSome held (λ files. step files command.place command.what (stands_for (told_files s) movie) ≡ Movie (stands_for (told_files t) next))
     → IfSome held (λ files. IsCarriedOut files command.place command.what (stands_for (told_files s) movie) (stands_for (told_files t) next))
     → IfSome held (λ files. RollsTo files commands (done + 1) (stands_for (told_files t) next))
-rolls_on law commands done command movie next None s t here rolls made scales = tt
-rolls_on law commands done command movie next (Some files) s t here rolls made scales = (
+rolls_on law cuts commands done command movie next None s t here rolls made scales = tt
+rolls_on law cuts commands done command movie next (Some files) s t here rolls made scales = (
   seen_behind files command.place command.what rolls.0,
-  step_seen law files command.place command.what (stands_for (told_files s) movie) (stands_for (told_files t) next) rolls.0 made scales rolls.1,
+  step_seen law cuts files command.place command.what (stands_for (told_files s) movie) (stands_for (told_files t) next) rolls.0 made scales rolls.1,
   rolls.2 ∙ ap (λ (left : List CommandRecord). seen_behind_all files left rolls.0) here,
 )
 

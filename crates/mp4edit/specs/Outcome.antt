@@ -18,11 +18,12 @@ use Rattle.track_ops.specs.Adding.{add}
 use Rattle.track_ops.specs.Delay.{delay}
 use Rattle.track_ops.specs.SetScales.{set_movie_scale, set_track_scale}
 use Rattle.track_ops.specs.Tracks.{remove, set_enabled, set_language}
+use Rattle.cut_op.specs.Cut.{cut}
 use Rattle.mp_layout.specs.File.{moov_fault}
 use Rattle.mp_words.specs.declared.name.FileKind.{FileKind}
 use Rattle.mp_words.specs.declared.name.FileKind.TheVariants.{Adts, Avc, Nhnt}
 use Rattle.mp_words.specs.declared.job.Rate.{Rate}
-use Rattle.mp_words.specs.Jobs.{Asked, Adds, Removes, Delays, ScalesTrack, ScalesMovie, SetsLanguage, Enables, CommandRecord, EditRecord}
+use Rattle.mp_words.specs.Jobs.{Asked, Adds, Removes, Delays, Cuts, ScalesTrack, ScalesMovie, SetsLanguage, Enables, CommandRecord, EditRecord}
 use Rattle.mp_words.specs.Names.{beside, kind_of}
 
 -- a movie to be written, a refusal, or an option whose file is missing
@@ -95,6 +96,7 @@ abbrev pub step : List HeldFile → ℕ → Asked → MovieRecord → Outcome
 step files command (Adds name choice rate) movie = add_outcome files command name choice rate movie
 step files command (Removes number) movie = applied command (remove number movie)
 step files command (Delays number ms) movie = applied command (delay number ms movie)
+step files command (Cuts from to) movie = applied command (cut from to movie)
 step files command (ScalesTrack number scale) movie = applied command (set_track_scale number scale movie)
 step files command (ScalesMovie scale) movie = applied command (set_movie_scale scale movie)
 step files command (SetsLanguage number letters) movie = applied command (set_language number letters movie)

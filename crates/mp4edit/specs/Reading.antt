@@ -12,9 +12,10 @@ use Rattle.mp_timeline.specs.Same.{HasScales}
 use Rattle.mp_movie.specs.WellFormed.{AreDistinct}
 use Rattle.mp_movie.specs.Placed.{PlacedMovie}
 use Rattle.mp_movie.specs.StandsFor.{stands_for}
+use Rattle.mp_clip.specs.Clipped.{IsRange}
 use Rattle.track_ops.specs.Numbers.{numbers_of}
 use Rattle.track_ops.specs.SeenLaw.{ShowDelayed}
-use Rattle.mp_words.specs.Jobs.{Asked, Adds, Removes, Delays, ScalesTrack, ScalesMovie, SetsLanguage, Enables}
+use Rattle.mp_words.specs.Jobs.{Asked, Adds, Removes, Delays, Cuts, ScalesTrack, ScalesMovie, SetsLanguage, Enables}
 use Rattle.mp4edit.specs.declared.stop.Stop.{Stop}
 use Rattle.mp4edit.specs.declared.stop.Stop.TheVariants.{Missing, Bad, ReadFault, NoMemory}
 use Rattle.mp4edit.specs.Names.{OpensAll, OpensFront, Wanted}
@@ -87,12 +88,13 @@ HasMovieScales (Movie movie) = HasScales movie
 HasMovieScales _ = Unit
 
 -- what is known of an option that was carried out, beside what it made of the movie: the file that it adds has scales, a
--- delay shows each track later or as before, and a scale that is set has ticks, of tracks with numbers of their own. It is
--- none that isn't built
+-- delay shows each track later or as before, a cut is to a range of time, of a movie that has scales, and a scale that is
+-- set has ticks, of tracks with numbers of their own. It is none that isn't built
 abbrev pub IsCarriedOut : List HeldFile → ℕ → Asked → (movie made : MovieRecord) → Type 0
 IsCarriedOut files command (Adds name choice rate) movie made = HasMovieScales (input files command name rate)
 IsCarriedOut files command (Removes number) movie made = Unit
 IsCarriedOut files command (Delays number ms) movie made = ShowDelayed number ms movie made
+IsCarriedOut files command (Cuts from to) movie made = IsRange from to × HasScales movie
 IsCarriedOut files command (ScalesTrack number scale) movie made = (0 < scale) × AreDistinct (numbers_of movie.tracks)
 IsCarriedOut files command (ScalesMovie scale) movie made = 0 < scale
 IsCarriedOut files command (SetsLanguage number letters) movie made = Unit

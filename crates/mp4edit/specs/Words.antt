@@ -5,7 +5,7 @@ use Rattle.mp_words.specs.declared.fault.WordKind.TheVariants.{NotYet}
 use Rattle.mp_words.specs.declared.name.FileKind.{FileKind}
 use Rattle.mp_words.specs.declared.name.FileKind.TheVariants.{Mp4, Avc, Adts, Nhnt}
 use Rattle.mp_words.specs.declared.job.DumpKind.{DumpKind}
-use Rattle.mp_words.specs.Jobs.{Asked, Adds, Removes, Delays, ScalesTrack, ScalesMovie, SetsLanguage, Enables, CommandRecord, EditRecord, JobRecord, Edits, Dumps, Generates}
+use Rattle.mp_words.specs.Jobs.{Asked, Adds, Removes, Delays, Cuts, ScalesTrack, ScalesMovie, SetsLanguage, Enables, CommandRecord, EditRecord, JobRecord, Edits, Dumps, Generates}
 use Rattle.mp_words.specs.Line.{WordFault, job as line_job}
 use Rattle.mp_words.specs.Names.{kind_of}
 
@@ -22,6 +22,7 @@ abbrev pub is_built : Asked → Bool
 is_built (Adds name choice rate) = is_read (kind_of name)
 is_built (Removes number) = true
 is_built (Delays number ms) = true
+is_built (Cuts from to) = true
 is_built (ScalesTrack number scale) = true
 is_built (ScalesMovie scale) = true
 is_built (SetsLanguage number letters) = true

@@ -1,8 +1,13 @@
 // The options of a line, applied in their order.
-ghost use Rattle.std.specs.Prelude.{◌≡◌, ◌*◌, ◌-◌, ◌<◌, ◌^◌, [], false, length, Some, All, IfOk, IfSome, OnOk};
+ghost use Rattle.std.specs.Prelude.{◌≡◌, ℕ, ◌*◌, ◌-◌, ◌<◌, ◌^◌, List, [], false, length, Some, All, IfOk, IfSome, OnOk};
 ghost use Rattle.mp_movie.specs.StandsFor.{Hold, stands_for};
 ghost use Rattle.mp_pieces.specs.Copied.{sizes_of};
+ghost use Rattle.mp_ports.specs.Gives.{refusal};
+ghost use Rattle.mp_timeline.specs.Same.{HasScales};
+ghost use Rattle.mp_clip.specs.Clipped.{IsRange};
+ghost use Rattle.track_ops.specs.Does.{Does};
 ghost use Rattle.track_ops.specs.Moments.{AreSeenAs};
+ghost use Rattle.cut_op.specs.Cut.{cut};
 ghost use Rattle.mp_words.specs.Jobs.{IsAsked, IsRate, asked};
 ghost use Rattle.mp_words.specs.Names.{kind_of};
 ghost use Rattle.mp4edit.specs.Names.{NeedAll, NeedsAll, input_names, is_nhnt, names_of, reads};
@@ -12,6 +17,8 @@ ghost use Rattle.mp4edit.specs.Roll.{roll};
 
 use crate::input::read_input;
 use crate::stop::{Stop, of_fail};
+use cut_op::{cut, cuts_are_seen};
+use mp_frac::Frac;
 use mp_movie::{Movie, files_may_follow, parts_stand_for_movies, same_movie_is_presented};
 use mp_ports::{Bad, Fail, Folder};
 use mp_words::{Command, Rate, What};
@@ -36,6 +43,7 @@ pub fn fold<F: Folder>(alloc: Global, folder: &mut F, commands: &[Command]) -> R
         (F.state folder.old) (F.state folder.new) }
 {
     commands_are_seen();
+    cuts_are_seen();
     let mut movie = Movie::new(alloc);
     for command in commands {
         if let Err(stop) = take_step(alloc, folder, &mut movie, command) {
@@ -75,6 +83,7 @@ fn take_step<F: Folder>(
         }
         What::Rem { number } => of_done(remove(movie, *number), place),
         What::Delay { number, ms } => of_failed(delay(alloc, movie, *number, *ms), place),
+        What::Cut { from, to } => of_failed(cut_to(alloc, movie, *from, *to), place),
         What::TrackScale { number, scale } => {
             of_done(set_track_scale(movie, *number, *scale), place)
         }
@@ -82,7 +91,7 @@ fn take_step<F: Folder>(
         What::Lang { number, letters } => of_done(set_language(movie, *number, *letters), place),
         What::Enabled { number, on } => of_done(set_enabled(movie, *number, *on), place),
         // No job that is built has another one.
-        What::Cat { .. } | What::Cut { .. } => Err(Stop::NoMemory),
+        What::Cat { .. } => Err(Stop::NoMemory),
     }
 }
 
@@ -121,6 +130,27 @@ fn add_input<F: Folder>(
         Err((fail, _)) => return Err(of_fail(fail, command)),
     }
     Ok(())
+}
+
+/// Cuts the movie so far to the time from `from` up to `to`, both in seconds.
+fn cut_to(alloc: Global, movie: &mut Movie, from: Frac, to: Frac) -> Result<(), Fail>
+    requires { IsRange from to }
+    ensures cut { Does refusal (cut from to) movie.old movie.new result }
+    ensures scales { (files : List (List ℕ)) → HasScales (stands_for files movie.old) }
+{
+    parts_stand_for_movies();
+    same_movie_is_presented();
+    let _tracks = movie.tracks();
+    match cut(alloc, std::mem::replace(movie, Movie::new(alloc)), from, to) {
+        Ok(made) => {
+            *movie = made;
+            Ok(())
+        }
+        Err((fail, whole)) => {
+            *movie = whole;
+            Err(fail)
+        }
+    }
 }
 
 /// What was done for the option of that number.

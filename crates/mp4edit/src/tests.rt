@@ -1,6 +1,7 @@
 // Whole runs over a folder and a report in memory.
 ghost use Rattle.std.specs.Prelude.{◌≡◌, ◌<◌, [], None, IfOk, vec_len};
 
+mod cuts;
 mod dumps;
 mod edits;
 mod endings;

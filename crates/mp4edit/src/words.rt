@@ -79,6 +79,7 @@ fn is_built(command: &Command) -> bool
         ),
         What::Rem { .. }
         | What::Delay { .. }
+        | What::Cut { .. }
         | What::TrackScale { .. }
         | What::MovieScale { .. }
         | What::Lang { .. }

@@ -1,5 +1,5 @@
 -- Each command of a job is of an option and its argument on the line.
-use Rattle.std.proofs.Common.{◌≡◌, ℕ, ◌+◌, ◌-◌, ◌*◌, ◌<◌, ◌≤◌, Bool, true, false, nat_le, ◌&&◌, List, [], ◌∷◌, All, length, take, drop, map, codes, string_bytes, ◌^◌, Option, Some, None, IfSome, Result, Ok, Err, IfOk, option_map, String, Global, refl, subst, arith, if◌then◌else◌}
+use Rattle.std.proofs.Common.{◌≡◌, ℕ, ◌+◌, ◌-◌, ◌*◌, ◌≤◌, Bool, true, false, nat_le, ◌&&◌, List, [], ◌∷◌, All, length, take, drop, map, codes, string_bytes, ◌^◌, Option, Some, None, IfSome, Result, Ok, Err, IfOk, option_map, String, Global, refl, subst, arith, if◌then◌else◌}
 use Rattle.std.proofs.lemmas.Bool.Decides.{nat_tests}
 use Rattle.std.proofs.lemmas.List.{length-map}
 use Rattle.std.proofs.lemmas.List.Elements.{All-from_recursion, All-nil, All-push}
@@ -14,18 +14,18 @@ use Rattle.mp_words.specs.declared.fault.WordKind.TheVariants.{Missing, SameName
 use Rattle.mp_words.specs.declared.job.DumpKind.{DumpKind}
 use Rattle.mp_words.specs.declared.job.DumpKind.TheVariants.{Info as OfInfo, Timeline as OfTimeline, Json as OfJson}
 use Rattle.mp_words.specs.declared.job.Job.{Job}
-use Rattle.mp_words.specs.declared.job.Rate.{Rate}
 use Rattle.mp_words.specs.declared.name.FileKind.{FileKind}
 use Rattle.mp_words.specs.declared.options.LineOption.{LineOption}
 use Rattle.mp_words.specs.declared.options.LineOption.TheVariants.{Add, Cat, Rem, Delay, SplitChunk, TrackScale, MovieScale, Lang, Enable, Disable, Inter, Out, Info, Timeline, Json, Gen}
 use Rattle.mp_words.specs.Answers.{GivesJob, job_record}
 use Rattle.mp_words.specs.Arguments.{added, asked_by, both, is_letter, letters_of, rate, rate_at, rated, selected}
-use Rattle.mp_words.specs.Jobs.{Adds, Asked, CommandRecord, Cuts, Delays, Enables, IsAsked, IsCommand, IsRate, JobRecord, Generates, Joins, Removes, ScalesMovie, ScalesTrack, SetsLanguage, commands_of}
-use Rattle.mp_words.specs.Line.{LineRecord, WordFault, at_word, option_at, or_refused, with_option, with_command, with_dump, options_from, nothing, edit_to, job_of, whole, job}
+use Rattle.mp_words.specs.Jobs.{Adds, Asked, Delays, Enables, IsAsked, IsCommand, IsRate, JobRecord, Generates, Joins, Removes, ScalesMovie, ScalesTrack, SetsLanguage, commands_of}
+use Rattle.mp_words.specs.Line.{LineRecord, WordFault, at_word, option_at, or_refused, with_option, with_command, with_dump, options_from, nothing, edit_to, job_of, whole}
 use Rattle.mp_words.specs.Marks.{around, before_last, behind_last, first_place}
 use Rattle.mp_words.specs.Names.{kind_of, is_avc, is_mp4}
-use Rattle.mp_words.specs.Numbers.{are_digits, milliseconds_of, number_of, number_in, positive_of, seconds_of}
+use Rattle.mp_words.specs.Numbers.{are_digits, milliseconds_of, number_of, number_in, positive_of}
 use Rattle.mp_words.specs.Options.{option_of}
+use Rattle.mp_words.proofs.TimesAreRanges.{each_range}
 
 -- what is so of a value that is made, where one is
 each_map : {A B : Type 0} (P : B → Type 0) (make : A → B) (from : Option A) → IfSome from (λ a. P (make a)) → IfSome (option_map make from) P
@@ -114,7 +114,7 @@ each_asked Cat argument = by (is_mp4 (kind_of argument))
     by false = tt
 each_asked Rem argument = each_map IsAsked Removes (positive_of argument) (any (positive_of argument))
 each_asked Delay argument = each_around IsAsked (byte "=") argument _ (λ track by. each_both IsAsked Delays (positive_of track) (milliseconds_of by) (λ n. any (milliseconds_of by)))
-each_asked SplitChunk argument = each_around IsAsked (byte ":") argument _ (λ from to. each_both IsAsked Cuts (seconds_of from) (seconds_of to) (λ n. any (seconds_of to)))
+each_asked SplitChunk argument = each_around IsAsked (byte ":") argument _ each_range
 each_asked TrackScale argument = each_around IsAsked (byte "=") argument _ (λ track scale. each_both IsAsked ScalesTrack (positive_of track) (positive_of scale) (λ n. positive scale))
 each_asked MovieScale argument = each_map IsAsked ScalesMovie (positive_of argument) (positive argument)
 each_asked Lang argument = each_around IsAsked (byte "=") argument _ (λ track letters. each_both IsAsked SetsLanguage (positive_of track) (letters_of letters) (λ n. each_letter letters))

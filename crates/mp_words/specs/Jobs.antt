@@ -1,6 +1,7 @@
 -- What a line asks for, as records of numbers and texts.
 use Rattle.std.specs.Prelude.{◌≤◌, ◌*◌, ℕ, ℤ, Bool, All, List, [], Option, Some, None, string_bytes}
 use Rattle.mp_frac.specs.declared.time.Frac.{Frac}
+use Rattle.mp_clip.specs.Clipped.{IsRange}
 use Rattle.track_ops.specs.declared.chosen.Choice.{Choice}
 use Rattle.mp_words.specs.declared.job.DumpKind.{DumpKind}
 use Rattle.mp_words.specs.declared.job.Rate.{Rate}
@@ -36,9 +37,10 @@ abbrev pub IsRate : Option Rate → Type 0
 IsRate None = Unit
 IsRate (Some rate) = (1 ≤ rate.num) × (1 ≤ rate.den)
 
--- what a line can ask for: rates and scales aren't 0, letters are `a` to `z`
+-- what a line can ask for: rates and scales aren't 0, no time is before 0, letters are `a` to `z`
 abbrev pub IsAsked : Asked → Type 0
 IsAsked (Adds name choice rate) = IsRate rate
+IsAsked (Cuts from to) = IsRange from to
 IsAsked (ScalesTrack number scale) = 1 ≤ scale
 IsAsked (ScalesMovie scale) = 1 ≤ scale
 IsAsked (SetsLanguage number letters) = All (λ letter. (97 ≤ letter) × (letter ≤ 122)) letters

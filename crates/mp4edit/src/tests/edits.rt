@@ -53,7 +53,7 @@ fn refused(code: Code, command: u32) -> Ending {
 }
 
 // The same bytes, but for these.
-fn changed(mut bytes: Vec<u8>, changes: &[(usize, u8)]) -> Vec<u8> {
+pub fn changed(mut bytes: Vec<u8>, changes: &[(usize, u8)]) -> Vec<u8> {
     for &(place, byte) in changes {
         if let Some(old) = bytes.get_mut(place) {
             *old = byte;

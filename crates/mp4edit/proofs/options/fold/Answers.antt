@@ -64,7 +64,7 @@ loop-command-preserved g c =
       told = told_next old.held s t (ap (λ (x : FolderState). x.held) c.loop-command.invariant.folder.rest) c.loop-command.invariant.told c.in_default.ensures.folder.told;
       held = search rules;
       folder = goes_on_here Unit c.in_default.field-0 c.args.commands.now c.loop-command.command-index c.command-item.result old s t c.loop-command-test.true c.command-item.is c.loop-command.invariant.folder c.in_default.ensures.folder;
-      seen = rolls_on c.commands_are_seen.ensures c.args.commands.now c.loop-command.command-index c.command-item.result c.loop-command.movie c.take_step.new.movie old.held s t
+      seen = rolls_on c.commands_are_seen.ensures c.cuts_are_seen.ensures c.args.commands.now c.loop-command.command-index c.command-item.result c.loop-command.movie c.take_step.new.movie old.held s t
           (drop_at c.args.commands.now c.loop-command.command-index c.command-item.result c.loop-command-test.true c.command-item.is) c.loop-command.invariant.seen (search rules) (search rules);
     }
 

@@ -4,6 +4,8 @@ use Rattle.mp_ports.specs.Gives.{refusal}
 use Rattle.mp_pieces.specs.Copied.{sizes_of}
 use Rattle.mp_movie.specs.StandsFor.{Hold, stands_for}
 use Rattle.mp_movie.specs.WellFormed.{AreDistinct}
+use Rattle.mp_timeline.specs.Same.{HasScales}
+use Rattle.mp_clip.specs.Clipped.{IsRange}
 use Rattle.track_ops.specs.Delay.{delay}
 use Rattle.track_ops.specs.Does.{Does}
 use Rattle.track_ops.specs.Later.{DelaysShown}
@@ -11,9 +13,10 @@ use Rattle.track_ops.specs.Numbers.{numbers_of}
 use Rattle.track_ops.specs.SeenLaw.{ShowDelayed}
 use Rattle.track_ops.specs.SetScales.{set_movie_scale, set_track_scale}
 use Rattle.track_ops.specs.Tracks.{remove, set_enabled, set_language}
-use Rattle.mp_words.specs.Jobs.{Asked, Adds, Delays, Enables, Removes, ScalesMovie, ScalesTrack, SetsLanguage}
+use Rattle.cut_op.specs.Cut.{cut}
+use Rattle.mp_words.specs.Jobs.{Asked, Adds, Cuts, Delays, Enables, Removes, ScalesMovie, ScalesTrack, SetsLanguage}
 use Rattle.mp4edit.specs.Names.{NeedsAll, names_of}
-use Rattle.mp4edit.specs.Outcome.{applied}
+use Rattle.mp4edit.specs.Outcome.{applied, step}
 use Rattle.mp4edit.specs.Reading.{Gives, OpensFiles, told_files}
 use Rattle.mp4edit.proofs.Folds.{done_gives, done_holds, failed_gives, failed_holds, fails_no_file, opens_no_file}
 use Rattle.mp4edit.proofs.Rolls.{delay_shows, known, own_numbers}
@@ -139,6 +142,43 @@ returns-in-Delay-clause-done g c =
     subst (λ (ms : ℤ). OnOk c.delay.result (DelaysShown number ms c.args.movie.now c.delay.new.movie)) (to_z-of_z w32 ms fits) c.delay.ensures.shown in
     let done : IfSome s.held (λ files. OnOk c.of_failed.result (ShowDelayed number ms (stands_for (told_files s) c.args.movie.now) (stands_for (told_files s) c.delay.new.movie))) =
     rw c.of_failed.ensures (delay_shows s.held s c.command.inside.place number ms c.args.movie.now c.delay.new.movie c.delay.result c.requires.told c.requires.held shown) in
+    search (rules, is, done)
+
+pub returns-in-Cut-clause-movie : goal.returns-in-Cut-clause-movie
+returns-in-Cut-clause-movie g c =
+    let s = g.F.Folder.state c.args.folder.now in
+    let made = cut c.in-Cut.from c.in-Cut.to in
+    let gives : IfSome s.held (λ files. Gives {A = Unit} (λ _. c.cut_to.new.movie) c.of_failed-in-Cut.result s (applied c.command.inside.place (made (stands_for (told_files s) c.args.movie.now)))) =
+    rw c.of_failed-in-Cut.ensures (failed_gives s c.command.inside.place made c.args.movie.now c.cut_to.new.movie c.cut_to.result c.requires.told c.requires.held c.cut_to.ensures.cut) in
+    let is : c.args.command.now.what ≡ Cuts c.in-Cut.from c.in-Cut.to = search rules in
+    let steps : IfSome s.held (λ files. Gives {A = Unit} (λ _. c.cut_to.new.movie) c.of_failed-in-Cut.result s (step files c.command.inside.place c.args.command.now.what (stands_for (told_files s) c.args.movie.now))) =
+    subst (λ (what : Asked). IfSome s.held (λ files. Gives {A = Unit} (λ _. c.cut_to.new.movie) c.of_failed-in-Cut.result s (step files c.command.inside.place what (stands_for (told_files s) c.args.movie.now)))) (sym is) gives in
+    search (rules, steps)
+
+pub returns-in-Cut-clause-held : goal.returns-in-Cut-clause-held
+returns-in-Cut-clause-held g c =
+    let s = g.F.Folder.state c.args.folder.now in
+    let held : OnOk c.of_failed-in-Cut.result (Hold (sizes_of s) c.cut_to.new.movie) =
+    rw c.of_failed-in-Cut.ensures (failed_holds (sizes_of s) c.command.inside.place (cut c.in-Cut.from c.in-Cut.to) c.args.movie.now c.cut_to.new.movie c.cut_to.result c.requires.held c.cut_to.ensures.cut) in
+    search (rules, held)
+
+pub returns-in-Cut-clause-folder : goal.returns-in-Cut-clause-folder
+returns-in-Cut-clause-folder g c =
+    let s = g.F.Folder.state c.args.folder.now in
+    let what = Cuts c.in-Cut.from c.in-Cut.to in
+    let is : c.args.command.now.what ≡ what = search rules in
+    let opens : OpensFiles {A = Unit} c.of_failed-in-Cut.result (names_of what) 3 (NeedsAll what) s s =
+    rw c.of_failed-in-Cut.ensures (fails_no_file what (NeedsAll what) c.command.inside.place c.cut_to.result s (λ files. refl)) in
+    subst (λ (w : Asked). OpensFiles {A = Unit} c.of_failed-in-Cut.result (names_of w) 3 (NeedsAll w) s s) (sym is) opens
+
+pub returns-in-Cut-clause-done : goal.returns-in-Cut-clause-done
+returns-in-Cut-clause-done g c =
+    let s = g.F.Folder.state c.args.folder.now in
+    let what = Cuts c.in-Cut.from c.in-Cut.to in
+    let is : c.args.command.now.what ≡ what = search rules in
+    let range : IsRange c.in-Cut.from c.in-Cut.to = search rules in
+    let done : IfSome s.held (λ files. OnOk c.of_failed-in-Cut.result (IsRange c.in-Cut.from c.in-Cut.to × HasScales (stands_for (told_files s) c.args.movie.now))) =
+    known s.held c.of_failed-in-Cut.result _ (range, c.cut_to.ensures.scales (told_files s)) in
     search (rules, is, done)
 
 pub returns-in-TrackScale-clause-movie : goal.returns-in-TrackScale-clause-movie
